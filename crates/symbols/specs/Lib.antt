@@ -1,0 +1,4 @@
+pub mod Answers
+pub mod Letters
+pub mod Tiles
+pub mod Rows
