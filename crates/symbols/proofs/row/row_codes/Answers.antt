@@ -11,21 +11,21 @@ use Rattle.symbols.specs.Rows.{AllSymbols, codesOf}
 use Rattle.symbols.proofs.Answered.{answered}
 use Rattle.symbols.proofs.row.row_codes.Needs as need
 
-pub loop-before-again : need.loop-before-again
-loop-before-again g c =
+pub loop-i-again : need.loop-i-again
+loop-i-again g c =
     let k = g .K·Kind in
     let row = c .args .row .now in
-    let i = c .loop-before .before in
-    let s = c .index-row-before .result in
+    let i = c .loop-i .i in
+    let s = c .index-row-i .result in
     let said = answered (k .valid s) (c .in-Ok .c) (k .code s) _ (c .in-Ok .ensures tt) in
-    let more : take (i + 1) row ≡ take i row ++ s ∷ [] = take-more row i s (search needs) ∙ ap (λ x. take i row ++ x ∷ []) (sym (c .index-row-before .is)) in
-    let pushed : vec-items (c .push .last .self) ≡ vec-items (c .loop-before .codes) ++ c .in-Ok .c ∷ [] = search needs in (
-      subst (AllSymbols k) (sym more) (all-push (λ x. k .valid x ≡ true) (take i row) s (c .loop-before .inv .0) (said .0)),
-      pushed ∙ ap (λ v. v ++ c .in-Ok .c ∷ []) (c .loop-before .inv .1) ∙ ap (λ x. codesOf k (take i row) ++ x ∷ []) (said .1)
+    let more : take (i + 1) row ≡ take i row ++ s ∷ [] = take-more row i s (search needs) ∙ ap (λ x. take i row ++ x ∷ []) (sym (c .index-row-i .is)) in
+    let pushed : vec-items (c .push .last .self) ≡ vec-items (c .loop-i .codes) ++ c .in-Ok .c ∷ [] = search needs in (
+      subst (AllSymbols k) (sym more) (all-push (λ x. k .valid x ≡ true) (take i row) s (c .loop-i .inv .0) (said .0)),
+      pushed ∙ ap (λ v. v ++ c .in-Ok .c ∷ []) (c .loop-i .inv .1) ∙ ap (λ x. codesOf k (take i row) ++ x ∷ []) (said .1)
           ∙ sym (map-append (k .code) (take i row) (s ∷ [])) ∙ ap (codesOf k) (sym more),
     )
 
 pub returns : need.returns
 returns g c =
-    let all : take (c .loop-before .before) (c .args .row .now) ≡ c .args .row .now = take-all _ _ (c .loop-before-test .left) in
-    subst (λ row. AllSymbols (g .K·Kind) row × (vec-items (c .loop-before .codes) ≡ codesOf (g .K·Kind) row)) all (c .loop-before .inv)
+    let all : take (c .loop-i .i) (c .args .row .now) ≡ c .args .row .now = take-all _ _ (c .loop-i-test .left) in
+    subst (λ row. AllSymbols (g .K·Kind) row × (vec-items (c .loop-i .codes) ≡ codesOf (g .K·Kind) row)) all (c .loop-i .inv)

@@ -5,5 +5,5 @@ use Rattle.symbols.specs.Rows.{AllSymbols, codesOf}
 use Rattle.symbols.proofs.row.row_codes.Given as given
 
 -- The symbols passed have the codes so far.
-abbrev pub Inv-loop-before : given.InvT-loop-before
-Inv-loop-before g l = AllSymbols (g .K·Kind) (take (l .before) (l .row)) × (vec-items (l .codes) ≡ codesOf (g .K·Kind) (take (l .before) (l .row)))
+abbrev pub Inv-loop-i : given.InvT-loop-i
+Inv-loop-i g l = AllSymbols (g .K·Kind) (take (l .i) (l .row)) × (vec-items (l .codes) ≡ codesOf (g .K·Kind) (take (l .i) (l .row)))

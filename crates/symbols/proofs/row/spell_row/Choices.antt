@@ -4,5 +4,5 @@ use Rattle.symbols.specs.Rows.{Spells}
 use Rattle.symbols.proofs.row.spell_row.Given as given
 
 -- The bytes so far spell the symbols passed.
-abbrev pub Inv-loop-before : given.InvT-loop-before
-Inv-loop-before g l = Spells (g .K·Kind) (vec-items (l .bytes)) (take (l .before) (l .row))
+abbrev pub Inv-loop-n : given.InvT-loop-n
+Inv-loop-n g l = Spells (g .K·Kind) (vec-items (l .bytes)) (take (l .n) (l .row))

@@ -2,7 +2,7 @@ use Prim.Native.Nat.{_-_, _≤_}
 use lib.ListN.{length, take}
 use Rattle.std.specs.Of.Vec.{vec-items}
 use Rattle.symbols.specs.Rows.{Spells}
-use Rattle.symbols.proofs.row.read_row.Given as given
+use Rattle.symbols.proofs.row.read_units.Given as given
 
 -- The symbols so far are spelled by the bytes passed.
 abbrev pub Inv-loop-at : given.InvT-loop-at
