@@ -8,8 +8,8 @@ use native.Mathlib.Omega.{arith}
 use Rattle.std.proofs.shelf.Elements.{all-getD}
 use Rattle.refusals.specs.declared.Refusal.the-variants.{Memory}
 use Rattle.symbols.specs.declared.kind.Kind.{Ghosts}
-use Rattle.symbols.specs.declared.row.RowRefusal.{RowRefusal}
-use Rattle.symbols.specs.Rows.{AllSymbols, NoSymbolAfter, RowRefused}
+use Rattle.symbol_rows.specs.declared.row.RowRefusal.{RowRefusal}
+use Rattle.symbol_rows.specs.Rows.{AllSymbols, NoSymbolAfter, RowRefused}
 
 module _ {K S : Type 0} (k : Ghosts K S) where
   none-after : (row : List S) (n : ℕ) → AllSymbols k row → NoSymbolAfter k row n → ⊥

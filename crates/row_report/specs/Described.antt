@@ -6,8 +6,8 @@ use Rattle.std.specs.Of.Vec.{vec-items}
 use Rattle.std.specs.declared.result.Result.{Result}
 use Rattle.std.specs.declared.result.Result.the-variants.{Ok, Err}
 use Rattle.symbols.specs.declared.kind.Kind.{Ghosts}
-use Rattle.symbols.specs.declared.row.RowRefusal.{RowRefusal}
-use Rattle.symbols.specs.Rows.{Spells, codesOf, ReadRefused}
+use Rattle.symbol_rows.specs.declared.row.RowRefusal.{RowRefusal}
+use Rattle.symbol_rows.specs.Rows.{Spells, codesOf, ReadRefused}
 use Rattle.row_report.specs.declared.Row.{Row}
 
 module _ {K S : Type 0} (k : Ghosts K S) where

@@ -7,7 +7,7 @@ use lib.Chars.{codes}
 use Rattle.std.specs.declared.result.Result.{Result}
 use Rattle.std.specs.declared.result.Result.the-variants.{Ok, Err}
 use Rattle.input.specs.Lines.{TwoLines}
-use Rattle.symbols.specs.declared.row.RowRefusal.{RowRefusal}
+use Rattle.symbol_rows.specs.declared.row.RowRefusal.{RowRefusal}
 use Rattle.symbols.specs.contracts.LettersAreKind.the-impl.{ghosts as letters}
 use Rattle.symbols.specs.contracts.TilesAreKind.the-impl.{ghosts as tiles}
 use Rattle.row_report.specs.declared.KindName.{KindName}

@@ -13,15 +13,15 @@ ghost use Rattle.std.specs.Orderings.{Decides};
 use input::two_lines;
 use std::alloc::Global;
 use std::fmt;
+use symbol_rows::RowRefusal;
+use symbol_rows::read_row;
+use symbol_rows::row_codes;
+use symbol_rows::spell_row;
 use symbols::Kind;
 use symbols::Letters;
 use symbols::LettersAreKind;
-use symbols::RowRefusal;
 use symbols::Tiles;
 use symbols::TilesAreKind;
-use symbols::read_row;
-use symbols::row_codes;
-use symbols::spell_row;
 
 /// The kinds that can be named.
 #[derive(Clone, Copy)]

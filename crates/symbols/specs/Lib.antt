@@ -1,4 +1,3 @@
 pub mod Answers
 pub mod Letters
 pub mod Tiles
-pub mod Rows

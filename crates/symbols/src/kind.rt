@@ -1,7 +1,7 @@
 ghost use mathlib.Core.Path.{_≡_};
-ghost use mathlib.Core.Bool.{Bool, true, false};
+ghost use mathlib.Core.Bool.{Bool, true, false, cond};
 ghost use mathlib.Core.List.{List};
-ghost use lib.Dec.{ltb};
+ghost use lib.Dec.{eqb, ltb};
 ghost use lib.ListN.{length, take};
 ghost use Prim.Native.Nat.{ℕ, _<_, _≤_};
 ghost use Rattle.std.specs.Results.{Cases};
@@ -37,6 +37,9 @@ pub trait Kind {
     law few: { codes ≤ 64 };
 
     law short: { (1 ≤ unitLength) × (unitLength ≤ 2) };
+
+    // Patterns know two alphabets: of 26 codes in units of one byte, and of 40 codes in units of two.
+    law alphabet: { codes ≡ cond (eqb unitLength 1) 26 40 };
 
     law long: { (s : Self·Symbol) → length (spelled s) ≡ 2 };
 

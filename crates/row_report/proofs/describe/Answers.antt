@@ -3,7 +3,7 @@ use mathlib.Core.Path.{_≡_, sym, subst}
 use mathlib.Core.Logic.{inl}
 use Rattle.std.specs.Of.Vec.{vec-items}
 use Rattle.std.proofs.shelf.Results.{err-from-errBy}
-use Rattle.symbols.specs.Rows.{RowRefused}
+use Rattle.symbol_rows.specs.Rows.{RowRefused}
 use Rattle.row_report.proofs.Known.{memory-only}
 use Rattle.row_report.proofs.describe.Needs as need
 

@@ -1,0 +1,19 @@
+-- One file for each argument.
+pub mod Powers
+pub mod Ranges
+pub mod Runs
+pub mod Parts
+pub mod Sequences
+pub mod Repeats
+pub mod Counted
+pub mod Fronts
+pub mod Widths
+pub mod Moves
+pub mod Completions
+pub mod Hints
+pub mod Distances
+pub mod PlaceRows
+pub mod Readings
+pub mod Decide
+pub mod Computed
+pub mod Examples

@@ -1,0 +1,12 @@
+use native.Mathlib.Omega.{arith}
+use lib.Bits.{or-lt}
+use Rattle.bits.specs.Members.{member}
+use Rattle.bits.proofs.Laws.{bit-laws}
+use Rattle.bits.proofs.set.Set64.union.Needs as need
+
+pub ghost-result : need.ghost-result
+ghost-result c = (or-lt 64 (c .args .self .bits) (c .args .other .bits) (c .args .self .small) (c .args .other .small), tt)
+
+pub returns : need.returns
+unfolding member
+returns c = λ k. simp bit-laws (grind arith)

@@ -1,0 +1,4 @@
+pub mod Lists
+pub mod Inserts
+pub mod Moves
+pub mod Puts

@@ -1,0 +1,4 @@
+pub mod Masks
+pub mod Nodes
+pub mod Passes
+pub mod Tables
