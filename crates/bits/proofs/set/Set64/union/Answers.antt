@@ -1,3 +1,4 @@
+use borrow.Author.Needs.{needs}
 use native.Mathlib.Omega.{arith}
 use lib.Bits.{or-lt}
 use Rattle.bits.specs.Members.{member}
@@ -5,7 +6,7 @@ use Rattle.bits.proofs.Laws.{bit-laws}
 use Rattle.bits.proofs.set.Set64.union.Needs as need
 
 pub ghost-result : need.ghost-result
-ghost-result c = (or-lt 64 (c .args .self .bits) (c .args .other .bits) (c .args .self .small) (c .args .other .small), tt)
+ghost-result c = search (needs, or-lt)
 
 pub returns : need.returns
 unfolding member

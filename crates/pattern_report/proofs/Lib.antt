@@ -1,0 +1,6 @@
+mod MaskBits
+mod CountsUsed
+mod PlaceTold
+mod BodyEnds
+mod UnitCodes
+mod StartsJoined

@@ -1,0 +1,4 @@
+pub mod ClassBody
+pub mod Told
+pub mod Describes
+pub mod Reports
