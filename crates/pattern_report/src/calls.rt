@@ -6,6 +6,7 @@ ghost use Rattle.plans.specs.Plans.{RefusedText};
 ghost use Rattle.std.specs.Of.Vec.{vec-items, vec-len};
 ghost use Rattle.std.specs.Vec.{made};
 ghost use Rattle.syntax.specs.Faults.{placesOf};
+ghost use Rattle.syntax.specs.Refuses.{Accepted};
 ghost use Rattle.std.specs.Options.{Cases as BySome};
 ghost use Rattle.std.specs.Orderings.{Decides};
 ghost use Rattle.std.specs.Results.{Cases as ByOk};
@@ -42,19 +43,20 @@ fn places_of(
     places_at(heap, kind, table, starts.as_slice())
 }
 
-/// Describes a pattern of this kind, or says why it is refused.
-pub fn describe<'a>(
+// Describes an accepted pattern by its tree; it is refused only for want of memory.
+fn describe_tree<'a>(
     heap: Global,
     kind: Alphabet,
     pattern: &'a [u8],
+    node: &Node,
 ) -> Result<Description<'a>, Refusal>
+    requires { ⌜ Accepted kind (now pattern) (astOf (now node)) ⌝ }
     ensures { λ r. ⌜ ByOk r (λ d. Describes kind (now (pattern .entry)) d) (λ e. RefusedText kind (now (pattern .entry)) e) ⌝ }
 {
-    let node = parse(heap, kind, pattern)?;
-    let Some(table) = table_of(&node) else {
+    let Some(table) = table_of(node) else {
         unreachable()
     };
-    let Ok(places) = places_of(heap, kind, &node, &table) else {
+    let Ok(places) = places_of(heap, kind, node, &table) else {
         return Err(Refusal::Memory);
     };
     let counts = counts_used(&table);
@@ -65,6 +67,18 @@ pub fn describe<'a>(
         counts,
         places,
     })
+}
+
+/// Describes a pattern of this kind, or says why it is refused.
+pub fn describe<'a>(
+    heap: Global,
+    kind: Alphabet,
+    pattern: &'a [u8],
+) -> Result<Description<'a>, Refusal>
+    ensures { λ r. ⌜ ByOk r (λ d. Describes kind (now (pattern .entry)) d) (λ e. RefusedText kind (now (pattern .entry)) e) ⌝ }
+{
+    let node = parse(heap, kind, pattern)?;
+    describe_tree(heap, kind, pattern, &node)
 }
 
 // Whether two words are the same.

@@ -4,7 +4,7 @@
 //! `Description` of an accepted pattern, with a `Place` for each of its places, or the refusal, with a mark under its byte.
 //! `specs/Describes.antt` says what each field is, in terms of the pattern's tree.
 //!
-//! For the lines `letters` and `a{3,2}` it prints the pattern, and under its byte 1 `^ refused 6 at 1: ..`.
+//! For the lines `letters` and `a{3,2}` it prints the pattern, and under its byte 1 `^ refused 6 at 1, BOUNDS: ..`.
 mod calls;
 mod data;
 mod places;

@@ -7,6 +7,25 @@ use refusals::Refusal;
 use std::fmt;
 use tables::Table;
 
+// The name of a refusal.
+fn name(e: Refusal) -> &'static str {
+    match e {
+        Refusal::Length => "LENGTH",
+        Refusal::Byte(_) => "BYTE",
+        Refusal::End(_) => "END",
+        Refusal::Range(_) => "RANGE",
+        Refusal::Empty(_) => "EMPTY",
+        Refusal::Bounds(_) => "BOUNDS",
+        Refusal::Nested(_) => "NESTED",
+        Refusal::Places(_) => "PLACES",
+        Refusal::Counts => "COUNTS",
+        Refusal::Symbol => "SYMBOL",
+        Refusal::Code => "CODE",
+        Refusal::Full => "FULL",
+        Refusal::Memory => "MEMORY",
+    }
+}
+
 // What a refusal says is wrong.
 fn words(e: Refusal) -> &'static str {
     match e {
@@ -55,16 +74,17 @@ fn show_refusal<W: fmt::Write>(
     f: &mut fmt::Formatter<W>,
 ) -> fmt::Result {
     let number = e.number();
+    let called = name(e);
     let what = words(e);
     let Some(p) = e.place() else {
-        return write!(f, "refused {number}: {what}");
+        return write!(f, "refused {number}, {called}: {what}");
     };
     show_pattern(pattern, f)?;
     write!(f, "\n")?;
     for _ in 0..p {
         write!(f, " ")?;
     }
-    write!(f, "^ refused {number} at {p}: {what}")
+    write!(f, "^ refused {number} at {p}, {called}: {what}")
 }
 
 impl fmt::Display for Place as PlaceDisplay {

@@ -69,37 +69,37 @@ mod tests {
         prints(
             heap,
             b"letters\na{3,2}",
-            "a{3,2}\n ^ refused 6 at 1: the high of this repeat is 0 or above 1000, or its low exceeds its high",
+            "a{3,2}\n ^ refused 6 at 1, BOUNDS: the high of this repeat is 0 or above 1000, or its low exceeds its high",
         )?;
         prints(
             heap,
             b"letters\na\x00\xffb",
-            "a??b\n ^ refused 2 at 1: no pattern begins with the bytes up to this one",
+            "a??b\n ^ refused 2 at 1, BYTE: no pattern begins with the bytes up to this one",
         )?;
         prints(
             heap,
             b"letters\n(a",
-            "(a\n  ^ refused 3 at 2: the pattern is not finished",
+            "(a\n  ^ refused 3 at 2, END: the pattern is not finished",
         )?;
         prints(
             heap,
             b"letters\n[a-cz-y]",
-            "[a-cz-y]\n    ^ refused 4 at 4: this range runs backwards",
+            "[a-cz-y]\n    ^ refused 4 at 4, RANGE: this range runs backwards",
         )?;
         prints(
             heap,
             b"tiles\nR1[]",
-            "R1[]\n  ^ refused 5 at 2: this class takes no symbol",
+            "R1[]\n  ^ refused 5 at 2, EMPTY: this class takes no symbol",
         )?;
         prints(
             heap,
             b"letters\n(a{2}){3}",
-            "(a{2}){3}\n  ^ refused 7 at 2: this counted repeat lies inside another",
+            "(a{2}){3}\n  ^ refused 7 at 2, NESTED: this counted repeat lies inside another",
         )?;
         prints(
             heap,
             b"letters\n(aaaa){1000}a{96}",
-            "(aaaa){1000}a{96}\n^ refused 9 at 0: the widths of all places and the start's add to more than 4096",
+            "(aaaa){1000}a{96}\n^ refused 9 at 0, COUNTS: the widths of all places and the start's add to more than 4096",
         )
     }
 
@@ -113,7 +113,7 @@ mod tests {
         let input = format!(heap, "letters\n{long}")?;
         let said = format!(
             heap,
-            "{shown}\n{blanks}^ refused 1 at 512: the pattern has more than 512 bytes"
+            "{shown}\n{blanks}^ refused 1 at 512, LENGTH: the pattern has more than 512 bytes"
         )?;
         prints(heap, input.as_bytes(), said.as_str())?;
         let places = times(heap, 'a', 65)?;
@@ -121,7 +121,7 @@ mod tests {
         let input = format!(heap, "letters\n{places}")?;
         let said = format!(
             heap,
-            "{places}\n{before}^ refused 8 at 64: this is the 65th place, and 64 are allowed"
+            "{places}\n{before}^ refused 8 at 64, PLACES: this is the 65th place, and 64 are allowed"
         )?;
         prints(heap, input.as_bytes(), said.as_str())
     }

@@ -44,7 +44,7 @@ pub data Said : Type 0 where
 abbrev pub AcceptedWith : Alphabet → List ℕ → (Tree → Type 0) → Type 0
 AcceptedWith a s P = (t : Ast) × Accepted a s t × P (treeOf t)
 
--- What is said holds of the text.
+-- What is said holds of the text: it is accepted and its tree has what is said, or it has the refusal with this number and place.
 abbrev pub Means : Alphabet → List ℕ → Said → Type 0
 Means a s (front w xs) = AcceptedWith a s (λ e. (p i : ℕ) → (Stands e w p i ↔ Listed xs p i))
 Means a s (fits w) = AcceptedWith a s (λ e. InText a s w)
@@ -65,7 +65,7 @@ letters s said = record { alphabet = Letters; text = codes s; said = said }
 abbrev pub tiles : String → Said → Example
 tiles s said = record { alphabet = Tiles; text = codes s; said = said }
 
--- A row of letters, and a row of tiles.
+-- A row of letters, and a row of tiles, by how it is written.
 abbrev pub letterRow : String → List ℕ
 letterRow s = lettersOf (codes s)
 
