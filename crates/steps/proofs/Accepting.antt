@@ -1,13 +1,13 @@
 -- Which pairs of a front accept, by what a bank and a table tell.
-use Prim.Native.Nat.{ℕ, _+_, _≤_, _<_}
-use mathlib.Core.Path.{_≡_, refl, sym, _∙_, ap, subst}
+use Prim.Native.Nat.{ℕ, _+_, _<_}
+use mathlib.Core.Path.{_≡_, refl, sym, _∙_, ap}
 use mathlib.Core.Bool.{Bool, true, false}
-use mathlib.Core.Logic.{_⊎_, inl, inr}
+use mathlib.Core.Logic.{inl, inr}
 use native.Mathlib.Omega.{arith}
 use lib.Dec.{T}
 use Rattle.std.proofs.shelf.Tests.{both-ways}
 use Rattle.automata.specs.Language.{Tree}
-use Rattle.automata.specs.Places.{size, nullable, Last, low}
+use Rattle.automata.specs.Places.{nullable}
 use Rattle.automata.specs.Step.{Accepts}
 use Rattle.automata.proofs.Ranges.{last-range}
 use Rattle.banks.specs.Pairs.{Pairs, within, _⊆_}

@@ -1,12 +1,12 @@
 -- The links from one place to another, followed one after another.
 use Prim.Native.Nat.{ℕ}
 use mathlib.Core.Path.{_≡_, subst}
-use mathlib.Core.Bool.{Bool, true, false, _&&_, _||_}
+use mathlib.Core.Bool.{Bool, _&&_}
 use native.Mathlib.Omega.{arith}
 use Rattle.std.specs.declared.result.Result.{Result}
 use Rattle.std.specs.declared.result.Result.the-variants.{Ok, Err}
 use Rattle.refusals.specs.declared.Refusal.{Refusal}
-use Rattle.banks.specs.Pairs.{Pairs, only, moved, _∪_}
+use Rattle.banks.specs.Pairs.{Pairs, only, moved}
 use Rattle.banks.specs.Meaning.{Meaning, Facts}
 use Rattle.widths.specs.Width.{widthOf}
 use Rattle.tables.specs.declared.table.Table.{Table}

@@ -1,13 +1,12 @@
 -- Calls that put pairs into the back, one after another.
 use Prim.Native.Nat.{ℕ}
 use mathlib.Core.Path.{_≡_, refl, sym, _∙_, ap, subst}
-use mathlib.Core.Bool.{Bool, true, false, _&&_, _||_}
+use mathlib.Core.Bool.{false}
 use native.Mathlib.Omega.{arith}
-use Rattle.std.specs.Results.{Cases}
 use Rattle.std.specs.declared.result.Result.{Result}
 use Rattle.std.specs.declared.result.Result.the-variants.{Ok, Err}
 use Rattle.refusals.specs.declared.Refusal.{Refusal}
-use Rattle.banks.specs.Pairs.{Pairs, none, within, _∪_, _∩_, _⊆_}
+use Rattle.banks.specs.Pairs.{Pairs, within, _∪_, _∩_, _⊆_}
 use Rattle.banks.specs.Meaning.{Meaning, Facts, Keeps, Put, grown}
 use Rattle.banks.proofs.Sets.{same-pairs, keeps-itself}
 use Rattle.steps.specs.Gathered.{Ready, Gathered}

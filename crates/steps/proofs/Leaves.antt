@@ -1,22 +1,22 @@
 -- The loops of the step: from one place to all, and from all places.
-use Prim.Native.Nat.{ℕ, _+_, _-_, _≤_, _<_}
+use Prim.Native.Nat.{ℕ, _+_, _-_, _≤_}
 use mathlib.Core.Path.{_≡_, refl, sym, _∙_, ap, subst}
-use mathlib.Core.Bool.{Bool, true, false, _&&_, _||_}
-use mathlib.Core.Logic.{_⊎_, inl, inr}
+use mathlib.Core.Bool.{Bool, true, false, _&&_}
+use mathlib.Core.Logic.{inl, inr}
 use native.Mathlib.Omega.{arith}
-use lib.Dec.{leb, ltb, eqb}
+use lib.Dec.{ltb, eqb}
 use Rattle.std.specs.declared.result.Result.{Result}
 use Rattle.std.specs.declared.result.Result.the-variants.{Ok, Err}
 use Rattle.std.specs.Orderings.{Decides}
 use Rattle.std.proofs.shelf.Tests.{cases-eq, cases-bool, eq-eqb, ne-eqb}
 use Rattle.std.proofs.shelf.Ways.{tells}
 use Rattle.refusals.specs.declared.Refusal.{Refusal}
-use Rattle.banks.specs.Pairs.{Pairs, none, within, _∪_, _⊆_}
+use Rattle.banks.specs.Pairs.{Pairs, within, _∪_, _⊆_}
 use Rattle.banks.specs.Meaning.{Meaning, Facts, Looked}
 use Rattle.widths.specs.Width.{widthOf}
 use Rattle.tables.specs.declared.table.Table.{Table}
 use Rattle.tables.specs.Tables.{takes, lowAt}
-use Rattle.steps.specs.StepSet.{anyBelow, seen, along, leaving, leavingBelow}
+use Rattle.steps.specs.StepSet.{seen, along, leaving, leavingBelow}
 use Rattle.steps.specs.Gathered.{Ready, Gathered}
 use Rattle.steps.specs.Fronts.{Fresh}
 use Rattle.steps.proofs.Any.{any-decides, any-more, Seen, seen-decides}
@@ -26,9 +26,6 @@ module _ (t : Table) (c : ℕ) (f : Pairs) where
   -- what the links from p give at the places below n
   abbrev pub leavingTo : ℕ → ℕ → Pairs
   leavingTo p n = λ q j. ltb q n && leaving t c f p q j
-
-  pub to-none : (p q j : ℕ) → leavingTo p 1 q j ≡ false
-  to-none p q j = grind (arith, tells)
 
   -- the links from p to q give pairs at q alone
   along-at : (p q r j : ℕ) → along t f p q r j ≡ (eqb r q && along t f p r r j)
@@ -51,14 +48,8 @@ module _ (t : Table) (c : ℕ) (f : Pairs) where
     | inr x ↦ grind (arith, tells)
   ]
 
-  pub to-all : (p n : ℕ) → t .places < n → (r j : ℕ) → leavingTo p n r j ≡ leaving t c f p r j
-  to-all p n h r j = grind (arith, tells)
-
   pub to-part : (p n : ℕ) → leavingTo p n ⊆ leaving t c f p
   to-part p n r j x = grind arith
-
-  pub below-none : (q j : ℕ) → leavingBelow t c f 0 q j ≡ false
-  below-none q j = refl
 
   pub below-more : (p q j : ℕ) → (leavingBelow t c f p ∪ leaving t c f p) q j ≡ leavingBelow t c f (p + 1) q j
   below-more p q j = let h = any-more p (λ k. leaving t c f k q j) in grind arith

@@ -1,12 +1,12 @@
 -- A test of one bit by a mask that has this bit alone.
-use Prim.Native.Nat.{ℕ, _*_, _-_, _^_, _≤_}
-use mathlib.Core.Path.{_≡_, refl, sym, _∙_, ap}
-use mathlib.Core.Bool.{Bool, true, false, not, _&&_}
+use Prim.Native.Nat.{ℕ, _*_, _-_, _^_}
+use mathlib.Core.Path.{_≡_, sym, _∙_, ap}
+use mathlib.Core.Bool.{false, not}
 use mathlib.Core.Logic.{inl, inr}
 use native.Mathlib.Nat.{one-mul}
 use native.Mathlib.Omega.{arith}
 use lib.Bits.{bitAnd}
-use lib.Dec.{eqb, leb}
+use lib.Dec.{eqb}
 use Rattle.std.proofs.shelf.Tests.{cases-eq}
 use Rattle.std.proofs.shelf.Ways.{tells}
 use Rattle.bits.specs.Bit.{bit}

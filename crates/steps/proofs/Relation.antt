@@ -1,14 +1,14 @@
 -- The step's set is the automaton's step, for every pattern whose table it is computed from.
-use Prim.Native.Nat.{ℕ, _+_, _-_, _≤_, _<_}
-use mathlib.Core.Path.{_≡_, refl, sym, _∙_, ap, subst}
-use mathlib.Core.Bool.{Bool, true, false, cond, _&&_, _||_}
-use mathlib.Core.Logic.{_⊎_, inl, inr}
+use Prim.Native.Nat.{ℕ, _+_, _-_, _≤_}
+use mathlib.Core.Path.{_≡_, refl, _∙_, ap}
+use mathlib.Core.Bool.{true, _&&_}
+use mathlib.Core.Logic.{inl, inr}
 use native.Mathlib.Omega.{arith}
-use lib.Dec.{leb, eqb}
-use Rattle.std.proofs.shelf.Tests.{and-parts, or-cases, eqb-true, eq-eqb}
+use lib.Dec.{leb}
+use Rattle.std.proofs.shelf.Tests.{and-parts, or-cases, eq-eqb}
 use Rattle.std.proofs.shelf.Ways.{tells}
 use Rattle.automata.specs.Language.{Tree, WellFormed}
-use Rattle.automata.specs.Places.{size, Holds, low, width}
+use Rattle.automata.specs.Places.{size, low, width}
 use Rattle.automata.specs.Moves.{Moved}
 use Rattle.automata.proofs.Ranges.{holds-range}
 use Rattle.automata.proofs.Widths.{AllInside, width-some}
@@ -17,8 +17,8 @@ use Rattle.banks.specs.Pairs.{Pairs, only, moved, within, _⊆_}
 use Rattle.widths.specs.Width.{widthOf}
 use Rattle.tables.specs.declared.table.Table.{Table}
 use Rattle.tables.specs.Masks.{within as withinLink, next as nextLink, cross as crossLink}
-use Rattle.tables.specs.Tables.{TableOf, widthOr0, lowOr0, takes, linksOf, lowAt}
-use Rattle.steps.specs.StepSet.{anyBelow, seen, onlyIf, along, leaving, leavingBelow, stepSet}
+use Rattle.tables.specs.Tables.{TableOf, takes, linksOf, lowAt}
+use Rattle.steps.specs.StepSet.{seen, along, leaving, leavingBelow, stepSet}
 use Rattle.steps.specs.Fronts.{InSet, IsStep}
 use Rattle.steps.proofs.Any.{any-decides, seen-decides}
 

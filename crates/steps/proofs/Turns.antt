@@ -1,7 +1,6 @@
 -- The end of a step: the back becomes the front, or is dropped.
 use Prim.Native.Nat.{ℕ, _+_}
 use mathlib.Core.Path.{_≡_, refl, sym, _∙_, ap, subst}
-use mathlib.Core.Bool.{Bool, true, false, _&&_, _||_}
 use native.Mathlib.Omega.{arith}
 use lib.Dec.{eqb}
 use Rattle.std.specs.declared.result.Result.{Result}
@@ -15,7 +14,7 @@ use Rattle.banks.proofs.Sets.{same-pairs}
 use Rattle.widths.specs.Width.{widthOf}
 use Rattle.tables.specs.declared.table.Table.{Table}
 use Rattle.steps.specs.StepSet.{leavingBelow, stepSet}
-use Rattle.steps.specs.Gathered.{Gathered, Ended}
+use Rattle.steps.specs.Gathered.{Ended}
 use Rattle.steps.specs.Fronts.{Fresh, Stepped}
 use Rattle.steps.proofs.Gathers.{keeps-both}
 use Rattle.steps.proofs.Leaves.{Below}

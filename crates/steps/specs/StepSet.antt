@@ -1,6 +1,6 @@
 -- The step of a front as a set of pairs, computed from a table by the moves that a bank makes along the links.
 use Prim.Native.Nat.{ℕ, zero, suc, _+_}
-use mathlib.Core.Bool.{Bool, true, false, _&&_, _||_}
+use mathlib.Core.Bool.{Bool, false, _&&_, _||_}
 use lib.Dec.{leb}
 use Rattle.banks.specs.Pairs.{Pairs, only, moved, within, _∪_, _∩_}
 use Rattle.widths.specs.Width.{widthOf}

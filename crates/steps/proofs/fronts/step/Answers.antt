@@ -1,4 +1,4 @@
-use mathlib.Core.Path.{_≡_, sym, subst}
+use mathlib.Core.Path.{sym, subst}
 use Rattle.steps.specs.Fronts.{Stepped}
 use Rattle.steps.proofs.Turns.{started-fresh, step-ended}
 use Rattle.steps.proofs.Relation.{step-is}

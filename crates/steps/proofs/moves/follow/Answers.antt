@@ -1,4 +1,5 @@
 use mathlib.Core.Path.{_≡_, refl, _∙_, ap}
+use native.Mathlib.Omega.{arith}
 use Rattle.std.proofs.shelf.Results.{err-from-errBy}
 use Rattle.tables.specs.Masks.{within, next, cross}
 use Rattle.tables.specs.Tables.{linksOf}
@@ -13,7 +14,7 @@ returns-in-Break-carry-if g c = λ ready.
     let p = c .args .p in
     let q = c .args .q in
     let f = m .front (c .args .bank .now) in
-    let e₀ : c .has-link .result ≡ within (linksOf t p q) = c .has-link .ensures 0 refl ∙ ap within (c .links-mask .ensures) in
+    let e₀ : c .has-link .result ≡ within (linksOf t p q) = c .has-link .ensures 0 (omega arith) ∙ ap within (c .links-mask .ensures) in
     let h₀ = gathered-at m (byWithin p q) _ _ f f _ _ _ e₀ refl (c .in-Break-carry-if .ensures tt ready) in
     let x = err-from-errBy (c .from-residual .result) (c .from-residual .ensures .1) in
     rw (x .1, x .2) (within-refused m t f p q (g .B·Bank·met .facts) _ _ _ (ready .stands) h₀)
@@ -25,8 +26,8 @@ returns-in-Break-carry-if-2 g c = λ ready.
     let p = c .args .p in
     let q = c .args .q in
     let f = m .front (c .args .bank .now) in
-    let e₀ : c .has-link .result ≡ within (linksOf t p q) = c .has-link .ensures 0 refl ∙ ap within (c .links-mask .ensures) in
-    let e₁ : c .has-link-2 .result ≡ next (linksOf t p q) = c .has-link-2 .ensures 1 refl ∙ ap next (c .links-mask .ensures) in
+    let e₀ : c .has-link .result ≡ within (linksOf t p q) = c .has-link .ensures 0 (omega arith) ∙ ap within (c .links-mask .ensures) in
+    let e₁ : c .has-link-2 .result ≡ next (linksOf t p q) = c .has-link-2 .ensures 1 (omega arith) ∙ ap next (c .links-mask .ensures) in
     let h₀ = gathered-at m (byWithin p q) _ _ f f _ _ _ e₀ refl (c .in-Continue-carry-if .ensures tt ready) in
     let r₁ = gathered-ready m _ _ _ h₀ in
     let h₁ = gathered-at m (byNext p q) _ _ _ f _ _ _ e₁ (h₀ .front-stays) (c .in-Break-carry-if-2 .ensures tt r₁) in
@@ -40,9 +41,9 @@ returns g c = λ ready.
     let p = c .args .p in
     let q = c .args .q in
     let f = m .front (c .args .bank .now) in
-    let e₀ : c .has-link .result ≡ within (linksOf t p q) = c .has-link .ensures 0 refl ∙ ap within (c .links-mask .ensures) in
-    let e₁ : c .has-link-2 .result ≡ next (linksOf t p q) = c .has-link-2 .ensures 1 refl ∙ ap next (c .links-mask .ensures) in
-    let e₂ : c .has-link-3 .result ≡ cross (linksOf t p q) = c .has-link-3 .ensures 2 refl ∙ ap cross (c .links-mask .ensures) in
+    let e₀ : c .has-link .result ≡ within (linksOf t p q) = c .has-link .ensures 0 (omega arith) ∙ ap within (c .links-mask .ensures) in
+    let e₁ : c .has-link-2 .result ≡ next (linksOf t p q) = c .has-link-2 .ensures 1 (omega arith) ∙ ap next (c .links-mask .ensures) in
+    let e₂ : c .has-link-3 .result ≡ cross (linksOf t p q) = c .has-link-3 .ensures 2 (omega arith) ∙ ap cross (c .links-mask .ensures) in
     let h₀ = gathered-at m (byWithin p q) _ _ f f _ _ _ e₀ refl (c .in-Continue-carry-if .ensures tt ready) in
     let r₁ = gathered-ready m _ _ _ h₀ in
     let h₁ = gathered-at m (byNext p q) _ _ _ f _ _ _ e₁ (h₀ .front-stays) (c .in-Continue-carry-if-2 .ensures tt r₁) in
