@@ -1,3 +1,5 @@
+#![tactic(auto)]
+
 // Patterns with counted repeats and the automaton that reads them: definitions and theorems, with no program logic.
 //
 // The definitions stand in specs/, from bottom to top: Language (patterns as trees, and their rows), Places (firsts, lasts,

@@ -1,9 +1,9 @@
 -- What the first pass from the start leaves.
-use Rattle.std.proofs.Common.{◌≡◌, ℕ, ◌+◌, ◌-◌, ◌≤◌, Bool, true, false, ◌&&◌, ◌||◌, eqb, leb, Ok, Err, Result, sym, ap, ◌∙◌, arith}
+use Rattle.std.proofs.Common.{◌≡◌, ℕ, ◌+◌, ◌-◌, ◌≤◌, Bool, false, ◌&&◌, ◌||◌, eqb, leb, Ok, Err, Result, sym, ap, ◌∙◌, arith}
 use Rattle.std.proofs.lemmas.Bool.{leb-true}
 use Rattle.std.proofs.lemmas.Bool.Decides.{nat_tests, same_from_decides}
 use Rattle.refusals.specs.declared.Refusal.{Refusal}
-use Rattle.banks.specs.Pairs.{Pairs, none, only, moved, within, ◌∪◌, ◌∩◌}
+use Rattle.banks.specs.Pairs.{none, only, moved, within, ◌∩◌}
 use Rattle.banks.specs.Meaning.{Meaning, Started, Looked, grown}
 use Rattle.banks.specs.Raises.{raise_by}
 use Rattle.banks.specs.declared.Raise.{Raise}

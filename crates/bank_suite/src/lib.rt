@@ -6,6 +6,9 @@
 //! and over a mask layer.
 //!
 //! `first_pass::<ListBank>(&widths, 1, Raise::Nothing)` is `Ok(true)` where place 1 has a width.
+
+#![tactic(auto)]
+
 ghost use Rattle.std.specs.Prelude.{◌≡◌, ◌+◌, MatchResult, nat_le};
 ghost use Rattle.refusals.specs.declared.Refusal.TheVariants.{Full};
 ghost use Rattle.widths.specs.Width.{width_of};

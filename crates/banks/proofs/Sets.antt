@@ -1,7 +1,7 @@
 -- Sets of pairs that are equal, and a bank that a call leaves as it was.
-use Rattle.std.proofs.Common.{◌≡◌, ℕ, Bool, true, false, ◌&&◌, ◌||◌, sym, refl, ap, ◌∙◌, arith}
+use Rattle.std.proofs.Common.{◌≡◌, ℕ, false, ◌&&◌, refl, ap, arith}
 use mathlib.Core.Path.{fun_ext}
-use Rattle.banks.specs.Pairs.{Pairs, none, within, ◌∪◌, ◌∩◌, ◌⊆◌}
+use Rattle.banks.specs.Pairs.{Pairs, ◌∪◌, ◌∩◌}
 use Rattle.banks.specs.Meaning.{Meaning, Keeps}
 
 -- sets with the same pairs are equal

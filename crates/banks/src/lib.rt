@@ -6,6 +6,9 @@
 //! stood before, and every other call keeps it. Any numbers may be passed to any call.
 //!
 //! A step over some bank `b`: `b.carry(3, 4, Raise::One)?; b.turn();`
+
+#![tactic(auto)]
+
 ghost use Rattle.std.specs.Prelude.{◌≡◌, ℕ};
 ghost use Rattle.widths.specs.Width.{width_of};
 ghost use Rattle.banks.specs.Pairs.{none, only, moved};

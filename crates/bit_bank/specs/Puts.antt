@@ -1,5 +1,5 @@
 -- What the calls of a bit bank do to its meaning.
-use Rattle.std.specs.Prelude.{◌≡◌, ℕ, ◌+◌, ◌-◌, ◌*◌, ◌<◌, ◌≤◌, min, Bool, true, false, ◌&&◌, ◌||◌, List, Ok, ◌==◌, slice_index, refl}
+use Rattle.std.specs.Prelude.{◌≡◌, ℕ, ◌+◌, ◌-◌, ◌*◌, ◌<◌, ◌≤◌, min, false, ◌&&◌, ◌||◌, List, Ok, ◌==◌, slice_index, refl}
 use Rattle.std.proofs.Common.{sym, ap, subst, ◌∙◌, ⊎_elim, arith}
 use Rattle.std.proofs.lemmas.Bool.{cases_eq}
 use Rattle.std.proofs.lemmas.Bool.Decides.{nat_tests}
@@ -13,7 +13,7 @@ use Rattle.bit_bank.specs.declared.rows.Rows.{Rows}
 use Rattle.bit_bank.specs.declared.bank.BitBank.{BitBank}
 use Rattle.bit_bank.specs.Join.{joined}
 use Rattle.bit_bank.specs.Means.{row_widths, pairs_in, bit_means}
-use Rattle.bit_bank.specs.Stand.{Inside, put_pair, join_row}
+use Rattle.bit_bank.specs.Stand.{put_pair, join_row}
 
 -- the two facts about what can be held
 pub bit_facts : Facts bit_means

@@ -5,6 +5,9 @@
 //! a turn copies and a drop clears the words in use. The whole bank takes less than 4 KiB.
 //!
 //! `let mut b: BitBank = Bank::new(); b.start(&widths); b.carry(0, 1, Raise::Nothing)?; b.turn();`
+
+#![tactic(auto)]
+
 mod bank;
 mod calls;
 mod rows;

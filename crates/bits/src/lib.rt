@@ -6,6 +6,9 @@
 //! and each call says what it does to that. Two sets with the same members are equal (`same_members` in `proofs/Members.antt`).
 //!
 //! `Set64::span(2, 5).union(Set64::only(9)).least()` is `Some(2)`.
+
+#![tactic(auto)]
+
 mod calls;
 mod set;
 

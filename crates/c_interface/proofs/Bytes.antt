@@ -1,14 +1,13 @@
 -- One letter more, and the byte behind it.
-use Rattle.std.proofs.Common.{◌≡◌, ℕ, ◌+◌, ◌<◌, ◌≤◌, Bool, true, false, cond, ◌⊎◌, List, [], ◌∷◌, ◌++◌, length, get_or, take, set, Ok, Err, sym, refl, ap, ◌∙◌, subst, inl, inr, arith}
+use Rattle.std.proofs.Common.{◌≡◌, ℕ, ◌+◌, ◌<◌, Bool, true, false, cond, List, [], ◌∷◌, ◌++◌, length, get_or, take, set, Ok, sym, refl, ap, ◌∙◌, subst, inl, inr, arith}
 use Rattle.std.proofs.lemmas.List.{take_more, get_or-set_same, get_or-set_other}
-use Rattle.std.proofs.lemmas.Bool.{cases_Bool, both_ways}
+use Rattle.std.proofs.lemmas.Bool.{both_ways}
 use Rattle.std.proofs.lemmas.Bool.Decides.{eqb_tells}
 use Rattle.symbols.specs.declared.letters.Letters.{Letters}
 use Rattle.symbols.specs.contracts.letters.LettersKind.TheImpl.{ghosts as letters}
 use Rattle.bit_bank.specs.declared.bank.BitBank.{BitBank}
 use Rattle.bit_bank.specs.contracts.calls.BitBankBank.TheImpl.{ghosts as bits}
 use Rattle.sessions.specs.declared.session.Session.{Session}
-use Rattle.sessions.specs.RowLanguage.{Belongs}
 use Rattle.sessions.specs.Calls.{Laid, Fitted}
 use Rattle.sessions.specs.Sessions.{StandsOn, Did}
 use Rattle.sessions.proofs.Standing.{stands_after}

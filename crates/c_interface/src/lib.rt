@@ -5,6 +5,9 @@
 //!
 //! In C: `size_t jothwila_fits(const uint8_t *pattern, size_t, const uint8_t *row, size_t, uint8_t *fits, size_t)` and
 //! `uint32_t jothwila_need(const uint8_t *pattern, size_t, const uint8_t *row, size_t, uint32_t again)`.
+
+#![tactic(auto)]
+
 mod each;
 mod exports;
 mod needs;

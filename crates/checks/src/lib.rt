@@ -5,6 +5,9 @@
 //! `specs/Faults.antt` says where each fault stands, `specs/Widths.antt` what the widths add to, `specs/Checks.antt` what `check` answers.
 //!
 //! Of the tree of `(a{2}){3}` the answer is `Err(Refusal::Nested(2))`.
+
+#![tactic(auto)]
+
 mod budget;
 mod checks;
 mod leftmost;

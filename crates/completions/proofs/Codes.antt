@@ -1,5 +1,5 @@
 -- A code of the place that a link leads to from a pair, with one less as its distance.
-use Rattle.std.proofs.Common.{◌≡◌, ℕ, suc, ◌+◌, ◌-◌, ◌<◌, ◌≤◌, true, false, Some, None, Option, sym, ◌∙◌, subst, arith, MatchOption}
+use Rattle.std.proofs.Common.{◌≡◌, ℕ, suc, ◌+◌, ◌-◌, ◌<◌, ◌≤◌, true, false, Some, None, Option, sym, ◌∙◌, arith, MatchOption}
 use Rattle.std.proofs.lemmas.Bool.{both_ways}
 use Rattle.automata.specs.Language.{Tree, NoEmptySet}
 use Rattle.automata.specs.Distances.{Inside, Labelled}

@@ -1,7 +1,7 @@
 -- What is answered of the need and of a hint, and what becomes of the area.
-use Rattle.std.specs.Prelude.{◌≡◌, ℕ, ◌<◌, ◌≤◌, ◌⊎◌, List, length, Ok, Err, Decides, Result}
+use Rattle.std.specs.Prelude.{◌≡◌, ℕ, ◌<◌, ◌≤◌, ◌⊎◌, List, length, Ok, Err, Result}
 use Rattle.refusals.specs.declared.Refusal.{Refusal}
-use Rattle.refusals.specs.declared.Refusal.TheVariants.{Work, Complete, Stuck as NoCompletion}
+use Rattle.refusals.specs.declared.Refusal.TheVariants.{Complete, Stuck as NoCompletion}
 use Rattle.automata.specs.Language.{Tree, In, WellFormed, NoEmptySet}
 use Rattle.automata.specs.Completion.{Need, Stuck, Hint}
 use Rattle.automata.specs.Distances.{Labelled}

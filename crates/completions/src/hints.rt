@@ -34,7 +34,7 @@ fn hint_from(table: &Table, area: &[u16], found: Option<Found>) -> Result<u8, Re
 pub fn hint_of<B: Bank>(table: &Table, bank: &B, area: &mut [u16]) -> Result<u8, Refusal>
     ensures area { Cleared area.old area.new }
     ensures short { length area.old < 4096 → result ≡ Err Work }
-    ensures answer { FullArea area.old → Fresh means table.now bank.now → Right HintOf table.now (means.front bank.now) result }
+    ensures answer { FullArea area.old → Fresh B.means table.now bank.now → Right HintOf table.now (B.means.front bank.now) result }
 {
     if !measure(table, area) {
         return Err(Refusal::Work);

@@ -6,6 +6,9 @@
 //! and stays. `specs/Answers.antt` says what they answer: for every pattern whose table it is, and every row whose front the bank has.
 //!
 //! Over the table of `.*a.{3}b` and the front of `aa`: `need_of` is `Ok(3)`, and `hint_of` is the code of a letter.
+
+#![tactic(auto)]
+
 mod hints;
 mod nearest;
 mod needs;

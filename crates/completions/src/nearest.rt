@@ -38,7 +38,7 @@ fn nearer<B: Bank>(
     i: u16,
     old: Option<Found>,
 ) -> Option<Found>
-    ensures { means.standing bank.now → LeastMark (mark_at (widths_of layout.now) area.now) (before (means.front bank.now) p i) old → LeastMark (mark_at (widths_of layout.now) area.now) (before (means.front bank.now) p (i + 1)) result }
+    ensures { B.means.standing bank.now → LeastMark (mark_at (widths_of layout.now) area.now) (before (B.means.front bank.now) p i) old → LeastMark (mark_at (widths_of layout.now) area.now) (before (B.means.front bank.now) p (i + 1)) result }
 {
     let mark = mark_of(layout, area, p, i);
     if improves(old, mark) && bank.look(p, i, i) {
@@ -60,7 +60,7 @@ fn nearest_at<B: Bank>(
     p: usize,
     old: Option<Found>,
 ) -> Option<Found>
-    ensures { widths_of layout.now ≡ table.now.widths → Fresh means table.now bank.now → LeastMark (mark_at (widths_of layout.now) area.now) (before (means.front bank.now) p 1) old → LeastMark (mark_at (widths_of layout.now) area.now) (before (means.front bank.now) (p + 1) 1) result }
+    ensures { widths_of layout.now ≡ table.now.widths → Fresh B.means table.now bank.now → LeastMark (mark_at (widths_of layout.now) area.now) (before (B.means.front bank.now) p 1) old → LeastMark (mark_at (widths_of layout.now) area.now) (before (B.means.front bank.now) (p + 1) 1) result }
 {
     let width = table.width_at(p);
     let mut best = old;
@@ -74,7 +74,7 @@ fn nearest_at<B: Bank>(
 
 // The pair of the front with the least mark, 0 apart.
 pub(crate) fn nearest<B: Bank>(table: &Table, bank: &B, area: &[u16]) -> Option<Found>
-    ensures { (e : Tree) → TableOf e table.now → Fresh means table.now bank.now → LeastMark (mark_at table.now.widths area.now) (means.front bank.now) result }
+    ensures { (e : Tree) → TableOf e table.now → Fresh B.means table.now bank.now → LeastMark (mark_at table.now.widths area.now) (B.means.front bank.now) result }
 {
     let layout = Layout::of(&table.widths());
     let mut best = None;

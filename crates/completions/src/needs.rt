@@ -14,7 +14,7 @@ use tables::Table;
 pub fn need_of<B: Bank>(table: &Table, bank: &B, area: &mut [u16]) -> Result<u16, Refusal>
     ensures area { Cleared area.old area.new }
     ensures short { length area.old < 4096 → result ≡ Err Work }
-    ensures answer { FullArea area.old → Fresh means table.now bank.now → Right NeedOf table.now (means.front bank.now) result }
+    ensures answer { FullArea area.old → Fresh B.means table.now bank.now → Right NeedOf table.now (B.means.front bank.now) result }
 {
     if !measure(table, area) {
         return Err(Refusal::Work);

@@ -5,6 +5,9 @@
 //! `specs/Describes.antt` says what each field is, in terms of the pattern's tree.
 //!
 //! Of the letters pattern `a{2,3}` the description has one place, at byte 0, of width 3 and low 2, and 4 counts.
+
+#![tactic(auto)]
+
 mod calls;
 mod data;
 mod kinds;

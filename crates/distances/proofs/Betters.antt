@@ -1,5 +1,5 @@
 -- The better of several marks: none, one after another, and the three links between two places.
-use Rattle.std.proofs.Common.{◌≡◌, ℕ, ◌+◌, ◌<◌, ◌≤◌, Bool, true, false, ◌⊎◌, List, sym, refl, ◌∙◌, subst, inl, inr, ⊎_elim, arith}
+use Rattle.std.proofs.Common.{◌≡◌, ℕ, ◌+◌, ◌<◌, ◌≤◌, Bool, true, ◌⊎◌, List, sym, refl, ◌∙◌, subst, inl, inr, ⊎_elim, arith}
 use Rattle.tables.specs.Masks.{within, next, cross}
 use Rattle.tables.specs.Tables.{links_of, low_of}
 use Rattle.distances.specs.declared.graph.Graph.{Graph}

@@ -1,11 +1,11 @@
 -- Grounded marks that nothing lowers go down by one along some link, so that none passes the number of pairs.
-use Rattle.std.proofs.Common.{◌≡◌, ℕ, zero, suc, ◌+◌, ◌-◌, ◌<◌, ◌≤◌, min, Bool, true, false, cond, ◌&&◌, leb, List, [], ◌∷◌, length, get_or, take, sym, refl, ap, ◌∙◌, ⊎_elim, arith}
+use Rattle.std.proofs.Common.{◌≡◌, ℕ, zero, suc, ◌+◌, ◌-◌, ◌<◌, ◌≤◌, cond, ◌&&◌, leb, List, [], ◌∷◌, length, get_or, take, ◌∙◌, ⊎_elim, arith}
 use Rattle.std.proofs.lemmas.List.{get_or-take, length-take}
 use Rattle.std.proofs.lemmas.Bool.{cases_lt}
 use Rattle.std.proofs.lemmas.Bool.Decides.{nat_tests}
 use Rattle.widths.specs.Width.{widths_of}
 use Rattle.distances.specs.declared.graph.Graph.{Graph}
-use Rattle.distances.specs.Graphs.{Pair, Link, accepting, mark_in, number_in}
+use Rattle.distances.specs.Graphs.{Pair, Link, mark_in, number_in}
 use Rattle.distances.specs.Search.{Ground, Settled}
 use Rattle.distances.proofs.Numbers.{number_inner, total_room}
 

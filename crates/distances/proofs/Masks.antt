@@ -1,11 +1,10 @@
 -- The links of a mask, told by the tests of the code.
-use Rattle.std.proofs.Common.{◌≡◌, ℕ, ◌<◌, Bool, true, false, not, ◌&&◌, eqb, sym, refl, ap, ◌∙◌, ap₂, inl, inr, ⊎_elim, arith}
+use Rattle.std.proofs.Common.{◌≡◌, ℕ, Bool, true, false, not, ◌&&◌, eqb, sym, refl, ap, ◌∙◌, ap₂, inl, inr, ⊎_elim, arith}
 use lib.Bits.{bit_and}
 use Rattle.std.proofs.lemmas.Bool.{cases_eq, both_ways}
 use Rattle.std.proofs.lemmas.Bool.Decides.{nat_tests}
 use Rattle.bits.specs.Bit.{bit}
 use Rattle.bits.proofs.Laws.{bit_of_and, bit_zero, bit_one_shl, some_bit}
-use Rattle.tables.specs.Masks.{within, next, cross}
 use Rattle.tables.specs.Tables.{links_of}
 use Rattle.distances.specs.declared.graph.Graph.{Graph}
 use Rattle.distances.specs.Graphs.{Link}

@@ -1,6 +1,6 @@
 -- Where marks stand: each pair has a number of its own, and each number below the sum of the widths is one pair's.
-use Rattle.std.proofs.Common.{◌≡◌, ℕ, zero, suc, ◌+◌, ◌-◌, ◌<◌, ◌≤◌, ◌⊎◌, sym, refl, ap, ◌∙◌, inl, inr, ⊎_elim, add-one, arith}
-use Rattle.std.proofs.lemmas.Bool.{cases_lt, cases_eq}
+use Rattle.std.proofs.Common.{◌≡◌, ℕ, zero, suc, ◌+◌, ◌-◌, ◌<◌, ◌≤◌, sym, ap, ◌∙◌, ⊎_elim, add-one, arith}
+use Rattle.std.proofs.lemmas.Bool.{cases_lt}
 use Rattle.widths.specs.declared.data.Widths.{Widths}
 use Rattle.widths.specs.Width.{width_of, widths_of, base_of}
 use Rattle.widths.proofs.Rows.{sum_more, base_room, base_apart}

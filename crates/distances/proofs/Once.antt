@@ -1,16 +1,15 @@
 -- The local facts of distances leave no choice, so that an area that holds them is told number by number.
-use Rattle.std.proofs.Common.{◌≡◌, ℕ, zero, suc, ◌+◌, ◌-◌, ◌<◌, ◌≤◌, Bool, true, false, cond, leb, List, get_or, sym, refl, ap, ◌∙◌, ⊎_elim, arith}
+use Rattle.std.proofs.Common.{◌≡◌, ℕ, zero, suc, ◌+◌, ◌-◌, ◌<◌, ◌≤◌, Bool, true, false, cond, leb, get_or, sym, refl, ap, ◌∙◌, ⊎_elim, arith}
 use Rattle.std.proofs.lemmas.Bool.{cases_lt}
 use Rattle.std.proofs.lemmas.Bool.Decides.{nat_tests}
 use Rattle.automata.specs.Language.{Tree, WellFormed}
 use Rattle.automata.specs.Places.{size, width}
 use Rattle.automata.specs.Distances.{Inside, Labelled}
 use Rattle.automata.proofs.Distances.{labels_right}
-use Rattle.widths.specs.declared.data.Widths.{Widths}
 use Rattle.widths.specs.Width.{width_of, base_of}
 use Rattle.tables.specs.declared.table.Table.{Table}
-use Rattle.tables.specs.Tables.{TableOf, width_or_zero}
-use Rattle.distances.specs.Marks.{mark_at, Measured, MeasuredOnce}
+use Rattle.tables.specs.Tables.{TableOf}
+use Rattle.distances.specs.Marks.{mark_at, MeasuredOnce}
 use Rattle.distances.proofs.Numbers.{pair_of_number}
 use Rattle.distances.proofs.Trees.{mark_at_lem}
 

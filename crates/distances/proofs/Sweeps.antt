@@ -1,10 +1,10 @@
 -- Sweeps, one after another.
-use Rattle.std.proofs.Common.{◌≡◌, ℕ, ◌<◌, ◌≤◌, Bool, true, false, ◌||◌, ◌⊎◌, List, sym, refl, ap, ◌∙◌, subst, inl, inr, ⊎_elim, arith}
+use Rattle.std.proofs.Common.{◌≡◌, ℕ, ◌<◌, Bool, true, false, ◌||◌, ◌⊎◌, List, sym, refl, ap, ◌∙◌, subst, ⊎_elim, arith}
 use Rattle.std.proofs.lemmas.Bool.{both_ways}
 use Rattle.std.proofs.lemmas.Bool.Decides.{nat_tests}
 use Rattle.distances.specs.declared.graph.Graph.{Graph}
 use Rattle.distances.specs.Graphs.{Pair}
-use Rattle.distances.specs.Search.{Ground, Settled, Behind, Swept, rest}
+use Rattle.distances.specs.Search.{Ground, Settled, Swept, rest}
 
 -- nothing is written
 pub swept_none : (g : Graph) (l : List ℕ) (V : ℕ → ℕ → Type 0) → Ground g l → ((p i : ℕ) → V p i → Pair g p i → Settled g l p i) → Swept g l l V false

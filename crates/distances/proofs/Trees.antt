@@ -1,8 +1,8 @@
 -- The graph of a pattern's table is the pattern's: its pairs, links and accepting pairs; so settled marks are distances in the pattern.
-use Rattle.std.proofs.Common.{◌≡◌, ℕ, suc, ◌+◌, ◌-◌, ◌<◌, ◌≤◌, Bool, true, false, cond, ◌&&◌, ◌||◌, T, eqb, leb, ◌⊎◌, List, length, get_or, Decides, sym, refl, ap, ◌∙◌, subst, inl, inr, arith}
+use Rattle.std.proofs.Common.{◌≡◌, ℕ, suc, ◌+◌, ◌-◌, ◌≤◌, Bool, true, false, cond, ◌&&◌, T, eqb, leb, ◌⊎◌, List, length, get_or, Decides, sym, refl, ap, ◌∙◌, subst, inl, inr, arith}
 use Rattle.std.proofs.lemmas.Bool.Decides.{nat_tests, Decides-and, Decides-or, Decides-eqb}
 use Rattle.automata.specs.Language.{Tree, WellFormed}
-use Rattle.automata.specs.Places.{size, nullable, First, Last, low, width}
+use Rattle.automata.specs.Places.{size, nullable, First, low, width}
 use Rattle.automata.specs.Links.{Cross, Link as TreeLink}
 use Rattle.automata.specs.Step.{Accepts}
 use Rattle.automata.specs.Distances.{Inside, Labelled}

@@ -1,12 +1,12 @@
 -- A write of a better mark keeps the marks grounded and leaves less to gain.
-use Rattle.std.proofs.Common.{◌≡◌, ℕ, zero, suc, ◌+◌, ◌-◌, ◌<◌, ◌≤◌, Bool, true, false, cond, eqb, ◌⊎◌, List, [], ◌∷◌, length, get_or, set, sym, refl, ap, ◌∙◌, subst, inl, inr, ⊎_elim, arith}
+use Rattle.std.proofs.Common.{◌≡◌, ℕ, zero, suc, ◌+◌, ◌<◌, ◌≤◌, Bool, true, cond, ◌⊎◌, List, [], ◌∷◌, length, get_or, set, sym, ap, ◌∙◌, subst, inl, inr, ⊎_elim, arith}
 use Rattle.std.proofs.lemmas.List.{get_or-set_same, get_or-set_other}
 use Rattle.std.proofs.lemmas.Bool.{cases_eq}
 use Rattle.std.proofs.lemmas.Bool.Decides.{nat_tests}
 use Rattle.widths.specs.Width.{widths_of, base_of}
 use Rattle.distances.specs.declared.graph.Graph.{Graph}
 use Rattle.distances.specs.Graphs.{Pair, Link, accepting, mark_in, number_in}
-use Rattle.distances.specs.Search.{Better, Grounded, Ground, Still, Settled, Behind, rest}
+use Rattle.distances.specs.Search.{Better, Grounded, Ground, Settled, Behind, rest}
 use Rattle.distances.proofs.Numbers.{number_inner, number_apart, total_room}
 
 -- what a mark r of (p, i) rests on

@@ -6,6 +6,9 @@
 //! A `Graph` is a copy of the table with the layout of its marks and, for each place, the places that its links lead to; there is no second area.
 //!
 //! For the table of `a{3}`, whose place 1 has the counts 1 to 3, the area begins 4, 3, 2, 1: (0, 1) is three links away, and (1, 3) accepts.
+
+#![tactic(auto)]
+
 mod build;
 mod graph;
 mod marks;

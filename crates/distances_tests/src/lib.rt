@@ -1,4 +1,7 @@
 //! Tests of the distances: small patterns whose marks were worked out by hand, and areas of several lengths.
+
+#![tactic(auto)]
+
 #[cfg(test)]
 mod tests {
     use distances::{mark_of, measure, wipe};

@@ -2,6 +2,9 @@
 //!
 //! Each line of the input is a kind, a pattern and a row, with blanks between them. For each the program prints the line and what `par` would say of it;
 //! where the banks differ, what each one says. Where a row has a need, hints are followed, and the row must fit after just as many symbols.
+
+#![tactic(auto)]
+
 mod answers;
 mod lines;
 

@@ -1,9 +1,9 @@
 -- What is written for the places of one part and then for those of another.
-use Rattle.std.proofs.Common.{◌≡◌, ℕ, ◌+◌, ◌<◌, ◌≤◌, Bool, true, false, cond, ◌||◌, ◌⊎◌, get_or, Some, None, Option, sym, refl, ap, ◌∙◌, subst, inl, inr, arith}
+use Rattle.std.proofs.Common.{◌≡◌, ℕ, ◌+◌, ◌<◌, ◌≤◌, Bool, true, false, ◌⊎◌, get_or, Some, None, Option, sym, refl, ap, ◌∙◌, subst, inl, inr, arith}
 use Rattle.std.proofs.lemmas.Bool.{cases_lt}
 use Rattle.std.proofs.lemmas.Bool.Decides.{nat_tests}
 use Rattle.automata.specs.Language.{Tree, cat, alt}
-use Rattle.automata.specs.Places.{size, low, width}
+use Rattle.automata.specs.Places.{size}
 use Rattle.automata.specs.Decide.{holdsb}
 use Rattle.automata.proofs.Decide.{decides_holds}
 use Rattle.automata.proofs.Ranges.{holds_range}

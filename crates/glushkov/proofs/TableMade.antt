@@ -1,10 +1,9 @@
 -- The table that the passes leave is that of the tree.
-use Rattle.std.proofs.Common.{◌≡◌, ℕ, zero, suc, ◌+◌, ◌<◌, ◌≤◌, Bool, true, false, cond, ◌&&◌, ◌||◌, eqb, leb, ◌⊎◌, List, length, get_or, set, replicate, None, Decides, sym, refl, ap, ◌∙◌, subst, inl, inr, zero-add, arith, get_or-set_other, get_or-set_same}
+use Rattle.std.proofs.Common.{◌≡◌, ℕ, zero, suc, ◌+◌, ◌<◌, ◌≤◌, Bool, false, cond, ◌&&◌, ◌||◌, eqb, ◌⊎◌, List, length, get_or, set, replicate, None, Decides, sym, refl, ap, ◌∙◌, inl, inr, zero-add, arith, get_or-set_other, get_or-set_same}
 use Rattle.std.proofs.lemmas.List.{get_or_default}
 use Rattle.std.proofs.lemmas.Bool.Decides.{nat_tests, eqb_tells, Decides-or, Decides-and, Decides-eqb}
 use Rattle.automata.specs.Language.{Tree}
-use Rattle.automata.specs.Places.{size, nullable, First, low, width}
-use Rattle.automata.specs.Links.{Cross}
+use Rattle.automata.specs.Places.{size, low, width}
 use Rattle.automata.specs.Decide.{firstb, holdsb, crossb}
 use Rattle.automata.proofs.Decide.{decides_first, decides_last, decides_holds, decides_within, decides_next, decides_cross}
 use Rattle.automata.proofs.Widths.{start_bounds}
@@ -18,9 +17,9 @@ use Rattle.glushkov.specs.declared.data.Counts.{Counts}
 use Rattle.tables.specs.declared.table.LinkRow.{LinkRow}
 use Rattle.glushkov.specs.declared.data.Part.{Part}
 use Rattle.tables.specs.declared.table.Table.{Table}
-use Rattle.tables.specs.Masks.{no_row, no_set, mask_at, within, next, cross, has_place, joined}
+use Rattle.tables.specs.Masks.{no_row, no_set, mask_at, has_place, joined}
 use Rattle.glushkov.specs.Passes.{PartOf, LinksOf, CountsOf, Outside, FreshCounts, FreshRows}
-use Rattle.tables.specs.Tables.{TableOf, Roomy, width_or_zero, low_or_zero, takes, links_of, low_of}
+use Rattle.tables.specs.Tables.{TableOf, Roomy, width_or_zero, low_or_zero}
 use Rattle.glushkov.proofs.CountLaws.{holds_outside, side}
 use Rattle.glushkov.proofs.LinkLaws.{bit_joined, mask_cross}
 use Rattle.glushkov.proofs.WidthSums.{sum_widths}

@@ -1,5 +1,5 @@
 -- What a pass does at a repeat.
-use Rattle.std.specs.Prelude.{ℕ, Bool, true, false, cond, ◌||◌, Some, None, Option, ◌==◌}
+use Rattle.std.specs.Prelude.{ℕ, Bool, true, cond, ◌||◌, Some, None, Option, ◌==◌}
 use Rattle.automata.specs.Language.{Tree}
 use Rattle.grammar.specs.Nodes.{ast_of}
 use Rattle.grammar.specs.declared.tree.Node.{Node}

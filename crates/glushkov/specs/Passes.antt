@@ -1,5 +1,5 @@
 -- What the passes over a part of the pattern write and answer. The part is e, and its places begin behind o.
-use Rattle.std.specs.Prelude.{◌≡◌, ℕ, ◌+◌, ◌<◌, ◌≤◌, Bool, true, false, cond, ◌||◌, ◌⊎◌, List, length, Some, None, Option, ◌==◌, slice_index, slice_index_or}
+use Rattle.std.specs.Prelude.{◌≡◌, ℕ, ◌+◌, ◌<◌, ◌≤◌, Bool, false, cond, ◌||◌, ◌⊎◌, List, length, Some, None, Option, ◌==◌, slice_index, slice_index_or}
 use Rattle.automata.specs.Language.{Tree}
 use Rattle.automata.specs.Places.{size, nullable, low, width}
 use Rattle.automata.specs.Decide.{firstb, lastb, holdsb, meetb, withinb, nextb, crossb}

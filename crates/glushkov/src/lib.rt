@@ -4,6 +4,9 @@
 //! `specs/Passes.antt` says what a pass writes for a part of the tree.
 //!
 //! The table of `(a{2})*` has one place, of width 2 and low 2, and from it to itself a next and a cross link.
+
+#![tactic(auto)]
+
 mod build;
 mod counts;
 mod data;

@@ -6,6 +6,9 @@
 //! or that the text begins a pattern and is none. What a pattern may further not have is not checked here.
 //!
 //! `read_tree(heap, Alphabet::Letters, b"(a|b){2}")` is a tree; `b"a**"` is refused at byte 2, and `b"(a"` at its end.
+
+#![tactic(auto)]
+
 mod bounds;
 mod bytes;
 mod classes;

@@ -4,6 +4,9 @@
 //! `two_lines` gives its first two lines; further lines are ignored.
 //!
 //! `two_lines(b"letters\nabc\n")` is `(b"letters", b"abc")`.
+
+#![tactic(auto)]
+
 ghost use Rattle.std.specs.Prelude.{◌≡◌, ℕ, ◌≤◌, IfOk, vec_len};
 ghost use Rattle.input.specs.Lines.{LineEnd, FirstLine, TwoLines};
 

@@ -1,4 +1,7 @@
 //! Reads two lines, a kind and a pattern, and prints a report on the pattern.
+
+#![tactic(auto)]
+
 use input::read_input;
 use pattern_report::report_pattern;
 

@@ -1,9 +1,9 @@
 -- A pair put into a list in order, and a list that is full.
-use Rattle.std.specs.Prelude.{◌≡◌, ℕ, zero, suc, ◌+◌, ◌-◌, ◌*◌, ◌<◌, ◌≤◌, Bool, true, false, ◌&&◌, ◌||◌, ◌⊎◌, List, ◌∷◌, length, get_or, Decides, ◌==◌, ◌≢◌, nat_le, nat_lt, slice_index_or, refl}
+use Rattle.std.specs.Prelude.{◌≡◌, ℕ, zero, suc, ◌+◌, ◌-◌, ◌<◌, ◌≤◌, true, false, ◌&&◌, ◌||◌, ◌⊎◌, List, ◌∷◌, length, get_or, Decides, ◌==◌, ◌≢◌, nat_le, nat_lt, slice_index_or, refl}
 use Rattle.std.proofs.Common.{sym, ap, ◌∙◌, ⊎_elim, inl, inr, le_of_suc-le-suc, not-suc-le-zero, arith}
 use Rattle.std.proofs.lemmas.Bool.{cases_lt, cases_eq, cases_Bool, or_left, or_right, and_from, and_parts, eq-eqb, eqb-true, ltb-true, leb-true, lt-ltb, le-leb, false≢true}
 use Rattle.std.proofs.lemmas.Bool.Decides.{same_from_decides, Decides-like, Decides-or, Decides-and, Decides-eqb}
-use Rattle.banks.specs.Pairs.{Pairs, only, ◌∪◌}
+use Rattle.banks.specs.Pairs.{only, ◌∪◌}
 use Rattle.banks.proofs.Sets.{same_pairs}
 use Rattle.list_bank.specs.declared.pairs.PairList.{PairList}
 use Rattle.list_bank.specs.Listed.{rank, listed, Short}

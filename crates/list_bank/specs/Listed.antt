@@ -1,5 +1,5 @@
 -- Lists of pairs, their order, and sets that a short list has.
-use Rattle.std.specs.Prelude.{◌≡◌, ℕ, zero, suc, ◌+◌, ◌*◌, ◌≤◌, Bool, true, false, ◌&&◌, ◌||◌, List, length, ◌==◌, slice_index_or}
+use Rattle.std.specs.Prelude.{◌≡◌, ℕ, zero, suc, ◌+◌, ◌*◌, ◌≤◌, true, false, ◌&&◌, ◌||◌, List, length, ◌==◌, slice_index_or}
 use Rattle.banks.specs.Pairs.{Pairs}
 
 -- by its rank a pair stands in the order of place and then count: counts have 16 bits

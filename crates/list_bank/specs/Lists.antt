@@ -1,12 +1,12 @@
 -- Lists of pairs: what is listed, and that a list without doubles is no longer than one that has all its pairs.
-use Rattle.std.specs.Prelude.{◌≡◌, ℕ, zero, suc, ◌+◌, ◌-◌, ◌*◌, ◌<◌, ◌≤◌, Bool, true, false, ◌&&◌, ◌||◌, ◌⊎◌, List, ◌∷◌, length, get_or, Decides, ◌==◌, ◌≢◌, slice_index_or, refl}
-use Rattle.std.proofs.Common.{sym, ap, ◌∙◌, ⊎_elim, inl, inr, zero-le, arith}
+use Rattle.std.specs.Prelude.{◌≡◌, ℕ, zero, suc, ◌+◌, ◌-◌, ◌<◌, ◌≤◌, ◌&&◌, List, length, get_or, Decides, ◌==◌, ◌≢◌, slice_index_or, refl}
+use Rattle.std.proofs.Common.{sym, ap, ◌∙◌, ⊎_elim, zero-le, arith}
 use Rattle.std.specs.List.{remove}
 use Rattle.std.proofs.lemmas.List.Edits.{length-remove, get_or-remove_below, get_or-remove_above}
-use Rattle.std.proofs.lemmas.Bool.{cases_lt, cases_eq, and_parts, eqb-true, eq-eqb, and_from}
+use Rattle.std.proofs.lemmas.Bool.{cases_lt, cases_eq}
 use Rattle.std.proofs.lemmas.Bool.Decides.{Decides-below_or, Decides-and, Decides-eqb}
-use Rattle.banks.specs.Pairs.{Pairs, ◌⊆◌}
-use Rattle.list_bank.specs.Listed.{rank, listed, Short}
+use Rattle.banks.specs.Pairs.{◌⊆◌}
+use Rattle.list_bank.specs.Listed.{rank, listed}
 
 -- (p, i) is the pair at some place below n
 abbrev pub Among : List (ℕ × ℕ) → ℕ → ℕ → ℕ → Type 0

@@ -1,8 +1,8 @@
 -- The pairs of a list moved from one place to another, one after the other.
-use Rattle.std.specs.Prelude.{◌≡◌, ℕ, suc, ◌+◌, ◌-◌, ◌<◌, ◌≤◌, Bool, true, false, ◌&&◌, ◌||◌, List, length, ◌==◌, ◌≢◌, slice_index_or, refl}
+use Rattle.std.specs.Prelude.{◌≡◌, ℕ, suc, ◌+◌, ◌-◌, ◌<◌, ◌≤◌, ◌&&◌, ◌||◌, List, ◌==◌, ◌≢◌, slice_index_or}
 use Rattle.std.proofs.Common.{sym, ap, ◌∙◌, add-one, arith}
 use Rattle.std.proofs.lemmas.Bool.Decides.{nat_tests}
-use Rattle.banks.specs.Pairs.{Pairs, none, only, moved, ◌∪◌, ◌∩◌, ◌⊆◌}
+use Rattle.banks.specs.Pairs.{Pairs, only, moved, ◌∪◌, ◌∩◌, ◌⊆◌}
 use Rattle.banks.proofs.Sets.{same_pairs, at_pair}
 use Rattle.list_bank.specs.Listed.{listed, Short}
 use Rattle.list_bank.specs.Means.{up_to}

@@ -1,13 +1,13 @@
 -- What the calls of a list bank do to its meaning.
-use Rattle.std.specs.Prelude.{◌≡◌, ℕ, ◌-◌, ◌≤◌, Bool, true, false, ◌&&◌, ◌||◌, [], ◌∷◌, Ok, Err, Result, ◌≢◌, nat_le, refl}
+use Rattle.std.specs.Prelude.{◌≡◌, ℕ, ◌-◌, ◌≤◌, false, ◌&&◌, [], ◌∷◌, Ok, Err, Result, ◌≢◌, nat_le, refl}
 use Rattle.std.proofs.Common.{sym, ap, subst, ◌∙◌, ⊎_elim, arith}
 use Rattle.std.proofs.lemmas.Bool.{cases_eq}
 use Rattle.std.proofs.lemmas.Bool.Decides.{nat_tests}
 use Rattle.refusals.specs.declared.Refusal.{Refusal}
 use Rattle.widths.specs.Width.{width_in}
 use Rattle.widths.proofs.Rows.{width_in_past}
-use Rattle.banks.specs.Pairs.{Pairs, none, only, moved, within, ◌∪◌, ◌∩◌, ◌⊆◌}
-use Rattle.banks.specs.Meaning.{Facts, Put, grown}
+use Rattle.banks.specs.Pairs.{Pairs, only, moved, within, ◌∪◌, ◌∩◌}
+use Rattle.banks.specs.Meaning.{Facts, Put}
 use Rattle.banks.proofs.Sets.{same_pairs, nothing_new}
 use Rattle.list_bank.specs.declared.pairs.PairList.{PairList}
 use Rattle.list_bank.specs.declared.bank.ListBank.{ListBank}

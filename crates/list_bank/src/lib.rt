@@ -5,6 +5,9 @@
 //! which takes the back's place only when all of them found room. The whole bank takes less than 4 KiB.
 //!
 //! `let mut b: ListBank = Bank::new(); b.start(&widths); b.carry(0, 1, Raise::Nothing)?; b.turn();`
+
+#![tactic(auto)]
+
 mod bank;
 mod calls;
 mod list;

@@ -7,7 +7,7 @@ use Rattle.refusals.specs.declared.Refusal.{Refusal}
 use Rattle.widths.specs.declared.data.Widths.{Widths}
 use Rattle.widths.specs.Width.{width_in}
 use Rattle.widths.proofs.Rows.{width_in_past}
-use Rattle.banks.specs.Pairs.{Pairs, none, only, within, moved, ◌∪◌, ◌∩◌, ◌⊆◌}
+use Rattle.banks.specs.Pairs.{Pairs, none, only, within, moved}
 use Rattle.banks.specs.Meaning.{Meaning, Facts, Keeps, Put, Looked, Turned, grown}
 use Rattle.banks.proofs.Sets.{same_pairs, at_pair, nothing_new, keeps_itself}
 use Rattle.mask_layer.specs.declared.sets.PlaceSet.{PlaceSet}

@@ -5,6 +5,9 @@
 //! generic over the bank below, and the layer is a bank itself, so it can stand on itself.
 //!
 //! `let mut b: MaskLayer<ListBank> = Bank::new(); b.start(&widths); b.carry(0, 1, Raise::Nothing)?; b.turn();`
+
+#![tactic(auto)]
+
 mod calls;
 mod layer;
 mod places;

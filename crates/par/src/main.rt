@@ -1,4 +1,7 @@
 //! Reads two lines, a letters pattern and a row, and prints whether the row fits and its need.
+
+#![tactic(auto)]
+
 use input::read_input;
 use par_report::report_par;
 

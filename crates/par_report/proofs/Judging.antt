@@ -1,5 +1,5 @@
 -- What is answered of a row that was laid, or refused, and of a text that was refused.
-use Rattle.std.proofs.Common.{◌≡◌, ℕ, ◌<◌, ◌≤◌, true, false, ◌⊎◌, List, [], ◌∷◌, ◌++◌, length, get_or, take, Some, None, Ok, Err, Option, sym, refl, ap, ◌∙◌, subst, inl, inr, arith}
+use Rattle.std.proofs.Common.{◌≡◌, ℕ, ◌<◌, ◌≤◌, ◌⊎◌, List, [], ◌∷◌, ◌++◌, length, get_or, take, Some, None, Err, Option, sym, refl, ap, ◌∙◌, subst, inl, inr, arith}
 use Rattle.refusals.specs.declared.Refusal.{Refusal}
 use Rattle.refusals.specs.declared.Refusal.TheVariants.{Length, Byte, End, Range, Empty, Bounds, Nested, Places, Counts, Symbol, Work, Code, Full, Complete, Stuck, Memory}
 use Rattle.refusals.specs.Numbering.{number_of, place_of}
@@ -13,13 +13,12 @@ use Rattle.banks.specs.declared.Bank.{Ghosts as BankGhosts}
 use Rattle.bit_bank.specs.contracts.calls.BitBankBank.TheImpl.{ghosts as bits}
 use Rattle.bit_bank.specs.declared.bank.BitBank.{BitBank}
 use Rattle.sessions.specs.declared.session.Session.{Session}
-use Rattle.sessions.specs.Calls.{Call, Laid, laid_all, row_of}
+use Rattle.sessions.specs.Calls.{Call, Laid, laid_all}
 use Rattle.sessions.specs.Sessions.{Did}
 use Rattle.sessions.specs.Runs.{Run, done, then, RightAt, EveryRun}
 use Rattle.sessions.proofs.RowsLaid.{row_laid}
 use Rattle.par_report.specs.Pars.{RowRefused, Judged}
-use Rattle.par_report.specs.declared.data.Par.{Par}
-use Rattle.par_report.specs.declared.data.Par.TheVariants.{Told, Refused}
+use Rattle.par_report.specs.declared.data.Par.TheVariants.{Refused}
 use Rattle.par_report.proofs.NeverFull.{only_no_symbol}
 
 -- the last call of a run

@@ -5,6 +5,9 @@
 //! `specs/Pars.antt` says what is answered, in terms of the language of the pattern.
 //!
 //! For the lines `.*a.{3}b` and `aa` it is `Par::Told { fits: false, need: Some(3) }`, which prints `no 3`.
+
+#![tactic(auto)]
+
 mod calls;
 mod data;
 mod show;

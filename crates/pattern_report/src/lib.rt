@@ -5,6 +5,9 @@
 //! `specs/Reports.antt` says what is reported of an input.
 //!
 //! For the lines `letters` and `a{3,2}` it prints the pattern, and under its byte 1 `^ refused 6 at 1, BOUNDS: ..`.
+
+#![tactic(auto)]
+
 mod calls;
 mod data;
 mod show;

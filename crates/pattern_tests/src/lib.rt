@@ -1,4 +1,7 @@
 //! Tests of the report on a pattern, in both kinds. The expected text is worked by hand from the rules.
+
+#![tactic(auto)]
+
 #[cfg(test)]
 mod tests {
     use pattern_report::report_pattern;

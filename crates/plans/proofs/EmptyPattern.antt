@@ -1,6 +1,6 @@
 -- The empty pattern is accepted.
-use Rattle.std.proofs.Common.{◌≡◌, ℕ, ◌≤◌, List, [], refl, arith}
-use Rattle.grammar.specs.Ast.{Ast, empty}
+use Rattle.std.proofs.Common.{ℕ, [], arith}
+use Rattle.grammar.specs.Ast.{empty}
 use Rattle.grammar.specs.Grammar.{IsPattern, last, none}
 use Rattle.grammar.specs.Nodes.{unit_of}
 use Rattle.grammar.specs.declared.tree.Alphabet.{Alphabet}

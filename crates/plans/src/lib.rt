@@ -5,6 +5,9 @@
 //! `specs/Plans.antt` says which plan a text has; `tables` has the fields.
 //!
 //! For a `Plan<Letters>`, `read(heap, b"(a|aa){5}")` makes three places of width 5, and `read(heap, b"a{3,2}")` is `Err(Refusal::Bounds(1))`.
+
+#![tactic(auto)]
+
 mod plan;
 mod read;
 mod texts;

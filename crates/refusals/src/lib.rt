@@ -4,6 +4,9 @@
 //! defines both once, and every promise about a refusal uses those definitions.
 //!
 //! `Refusal::Byte(4).number()` is 2 and `Refusal::Byte(4).place()` is `Some(4)`.
+
+#![tactic(auto)]
+
 ghost use Rattle.std.specs.Prelude.{◌≡◌};
 ghost use Rattle.refusals.specs.Numbering.{number_of, place_of};
 

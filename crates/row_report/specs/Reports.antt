@@ -1,5 +1,5 @@
 -- What the report says of an input of two lines: the kind's name, and a row.
-use Rattle.std.specs.Prelude.{◌≡◌, ℕ, ◌⊎◌, List, Ok, Err, codes, Result, ◌≢◌}
+use Rattle.std.specs.Prelude.{◌≡◌, ℕ, List, Ok, Err, codes, Result, ◌≢◌}
 use Rattle.input.specs.Lines.{TwoLines}
 use Rattle.symbol_rows.specs.declared.row.RowRefusal.{RowRefusal}
 use Rattle.symbols.specs.contracts.letters.LettersKind.TheImpl.{ghosts as letters}

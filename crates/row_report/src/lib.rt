@@ -4,6 +4,9 @@
 //! itself; a unit that is none is refused with the number of symbols before it.
 //!
 //! For the lines `tiles` and `R0Y9` the codes are 0 and 39.
+
+#![tactic(auto)]
+
 ghost use Rattle.std.specs.Prelude.{◌≡◌, ℕ, Decides, MatchOption, ◌≢◌};
 ghost use Rattle.row_report.specs.Described.{Described};
 ghost use Rattle.row_report.specs.Reports.{Reports, DescribedAs, word_of};

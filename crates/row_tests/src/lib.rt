@@ -1,5 +1,8 @@
 //! Tests of symbols, rows and the report on a row, at the edges of every range. The expected values are worked by hand from the rules:
 //! `a` is byte 97 and `z` byte 122, with "`" below and `{` above; `0` is byte 48 and `9` byte 57, with `/` below and `:` above.
+
+#![tactic(auto)]
+
 #[cfg(test)]
 mod tests {
     use refusals::Refusal;

@@ -1,4 +1,7 @@
 //! Reads two lines, a kind and a row, and prints a report on the row.
+
+#![tactic(auto)]
+
 use input::read_input;
 use row_report::report_row;
 

@@ -1,11 +1,11 @@
 -- What is told of a front is right for the row of symbols that it is the front of.
-use Rattle.std.proofs.Common.{◌≡◌, ℕ, ◌<◌, Bool, true, cond, eqb, ◌⊎◌, List, Ok, Err, Decides, Result, sym, refl, ◌∙◌, inl, inr}
+use Rattle.std.proofs.Common.{◌≡◌, ℕ, ◌<◌, Bool, true, cond, eqb, ◌⊎◌, List, Ok, Err, Decides, Result, inl, inr}
 use Rattle.std.proofs.lemmas.Bool.Decides.{Decides-like}
 use Rattle.refusals.specs.declared.Refusal.{Refusal}
 use Rattle.refusals.specs.declared.Refusal.TheVariants.{Complete, Stuck as NoCompletion}
 use Rattle.automata.specs.Language.{Tree, In}
-use Rattle.automata.specs.Step.{Stands, Accepts, Fits}
-use Rattle.automata.specs.Completion.{Hint, Stuck}
+use Rattle.automata.specs.Step.{Accepts, Fits}
+use Rattle.automata.specs.Completion.{Stuck}
 use Rattle.automata.proofs.Fronts.{language_by_fronts_lem}
 use Rattle.syntax.specs.TextLanguage.{tree_of}
 use Rattle.symbols.specs.declared.kind.Kind.{Ghosts as KindGhosts}
@@ -14,7 +14,7 @@ use Rattle.banks.specs.declared.Bank.{Ghosts as BankGhosts}
 use Rattle.steps.specs.Fronts.{InSet, IsFront, TellsAccepting}
 use Rattle.completions.specs.Answers.{NeedOf, HintOf, Right}
 use Rattle.sessions.specs.declared.session.Session.{Session}
-use Rattle.sessions.specs.RowLanguage.{Belongs, IsHint, IsStuck}
+use Rattle.sessions.specs.RowLanguage.{Belongs, IsHint}
 use Rattle.sessions.specs.Sessions.{StandsOn, front_pairs, NeedTold, HintTold}
 use Rattle.sessions.proofs.CodeRows.{in_belongs, belongs_in, need_like, stuck_from, hint_code, hint_from}
 

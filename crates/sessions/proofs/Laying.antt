@@ -1,5 +1,5 @@
 -- What lay does, by what the step did to the bank.
-use Rattle.std.proofs.Common.{◌≡◌, ℕ, true, false, Ok, Err, Result, sym, refl, subst}
+use Rattle.std.proofs.Common.{◌≡◌, ℕ, true, Ok, Err, Result, sym, refl, subst}
 use mathlib.Core.Path.{fun_ext}
 use mathlib.Core.Logic.{∥∥₁_elim}
 use Rattle.std.proofs.lemmas.Bool.{both_ways}
@@ -9,11 +9,10 @@ use Rattle.syntax.specs.TextLanguage.{tree_of}
 use Rattle.symbols.specs.declared.kind.Kind.{Ghosts as KindGhosts}
 use Rattle.tables.specs.declared.table.Table.{Table}
 use Rattle.plans.specs.Made.{Made}
-use Rattle.plans.specs.declared.plan.Plan.{Plan}
 use Rattle.banks.specs.declared.Bank.{Ghosts as BankGhosts}
 use Rattle.banks.specs.Pairs.{Pairs}
 use Rattle.steps.specs.StepSet.{step_set}
-use Rattle.steps.specs.Fronts.{Fresh, IsStep, Stepped}
+use Rattle.steps.specs.Fronts.{IsStep, Stepped}
 use Rattle.sessions.specs.declared.session.Session.{Session}
 use Rattle.sessions.specs.Sessions.{Ready, front_pairs, LaidAs, LayDid}
 

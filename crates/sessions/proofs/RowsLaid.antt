@@ -4,7 +4,7 @@ use Rattle.std.proofs.lemmas.List.{map_more}
 use Rattle.symbols.specs.declared.kind.Kind.{Ghosts as KindGhosts}
 use Rattle.banks.specs.declared.Bank.{Ghosts as BankGhosts}
 use Rattle.sessions.specs.declared.session.Session.{Session}
-use Rattle.sessions.specs.Calls.{Call, Laid, laid_all, row_from, row_of}
+use Rattle.sessions.specs.Calls.{Call, Laid, laid_all, row_from}
 use Rattle.sessions.specs.Sessions.{Did}
 use Rattle.sessions.specs.Runs.{Run, done, then}
 

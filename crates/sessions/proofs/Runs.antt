@@ -1,16 +1,14 @@
 -- Whatever list of calls was made, the answers are right.
-use Rattle.std.proofs.Common.{◌≡◌, ℕ, zero, suc, ◌+◌, ◌-◌, ◌<◌, ◌≤◌, Bool, true, false, ◌⊎◌, ◌↔◌, List, [], ◌∷◌, ◌++◌, length, Ok, Err, Decides, Result, sym, refl, ap, ◌∙◌, subst, inl, inr, arith}
+use Rattle.std.proofs.Common.{◌≡◌, ℕ, suc, ◌+◌, ◌-◌, true, ◌⊎◌, List, [], ◌∷◌, ◌++◌, Ok, Err, Result, sym, refl, ap, subst, inl, inr, arith}
 use Rattle.std.specs.List.{AllByRecursion as All}
-use Rattle.std.proofs.lemmas.Bool.{cases_Bool}
 use Rattle.refusals.specs.declared.Refusal.{Refusal}
 use Rattle.refusals.specs.declared.Refusal.TheVariants.{Full, Complete}
 use Rattle.automata.proofs.Completions.{least_unique}
 use Rattle.symbols.specs.declared.kind.Kind.{Ghosts as KindGhosts}
 use Rattle.banks.specs.declared.Bank.{Ghosts as BankGhosts}
-use Rattle.completions.specs.Answers.{FullArea}
 use Rattle.sessions.specs.declared.session.Session.{Session}
 use Rattle.sessions.specs.RowLanguage.{Belongs, CompletedBy, NeedIs, IsStuck, IsHint}
-use Rattle.sessions.specs.Calls.{Call, Laid, Cleared, Fitted, Needed, Hinted, row_after, row_from, Turns, none, turn}
+use Rattle.sessions.specs.Calls.{Call, Laid, Hinted, row_after, row_from, Turns, none, turn}
 use Rattle.sessions.specs.Sessions.{StandsOn, Did, HintTold}
 use Rattle.sessions.specs.Runs.{Run, done, then, Nearer, RightAt, EveryRun}
 use Rattle.sessions.proofs.Standing.{stands_after}

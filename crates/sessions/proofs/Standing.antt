@@ -1,10 +1,9 @@
 -- A session goes on standing on its pattern and the row that the calls lay.
-use Rattle.std.proofs.Common.{◌≡◌, ℕ, Bool, true, false, ◌&&◌, eqb, List, [], ◌∷◌, ◌++◌, Ok, Err, Decides, Result, sym, refl, ap, ◌∙◌, subst, inl, inr, arith}
+use Rattle.std.proofs.Common.{◌≡◌, ℕ, true, eqb, List, [], ◌∷◌, ◌++◌, Ok, Err, sym, subst, inl, inr, arith}
 use Rattle.std.proofs.ByRecursion.{All-push}
 use Rattle.std.proofs.lemmas.List.{map_push}
 use Rattle.std.proofs.lemmas.Bool.{cases_Bool}
-use Rattle.std.proofs.lemmas.Bool.Decides.{Decides-and, Decides-eqb, Decides-like, Decides-at}
-use Rattle.refusals.specs.declared.Refusal.{Refusal}
+use Rattle.std.proofs.lemmas.Bool.Decides.{Decides-and, Decides-eqb, Decides-like}
 use Rattle.automata.specs.Language.{Tree, WellFormed}
 use Rattle.automata.specs.Step.{Step, Stands}
 use Rattle.automata.proofs.Fronts.{front_by_step}
@@ -18,7 +17,7 @@ use Rattle.plans.specs.Plans.{PlanOf}
 use Rattle.banks.specs.declared.Bank.{Ghosts as BankGhosts}
 use Rattle.banks.specs.Pairs.{Pairs, only}
 use Rattle.banks.specs.Meaning.{Started}
-use Rattle.steps.specs.Fronts.{Fresh, InSet, IsFront, IsStep}
+use Rattle.steps.specs.Fronts.{InSet, IsFront, IsStep}
 use Rattle.steps.proofs.Turns.{started_fresh}
 use Rattle.sessions.specs.declared.session.Session.{Session}
 use Rattle.sessions.specs.Calls.{Call, Laid, Cleared, Fitted, Needed, Hinted, row_after}

@@ -11,16 +11,16 @@ use symbols::Kind;
 
 // Starts a bank with the widths of a plan.
 pub(crate) fn restart<K, B: Bank>(plan: &Plan<K>, bank: &mut B)
-    ensures { Started means (width_of plan.now.table.widths) bank.new }
+    ensures { Started B.means (width_of plan.now.table.widths) bank.new }
 {
     bank.start(&plan.table.widths());
 }
 
 // The session of a plan and a bank that was started with its widths.
 fn session_on<K: Kind, B: Bank>(plan: Plan<K>, bank: B) -> Session<K, B>
-    requires { Started means (width_of plan.table.widths) bank }
+    requires { Started B.means (width_of plan.table.widths) bank }
     ensures same { result.plan ≡ plan }
-    ensures started { Started means (width_of plan.table.widths) result.bank }
+    ensures started { Started B.means (width_of plan.table.widths) result.bank }
     ensures right { (text : List ℕ) → PlanOf K.Kind text plan → EveryRun K.Kind B.Bank text result }
 {
     Session { plan, bank }
@@ -30,7 +30,7 @@ fn session_on<K: Kind, B: Bank>(plan: Plan<K>, bank: B) -> Session<K, B>
 /// For every text that the plan is of, whatever list of calls follows, the answers are right for the row that the calls laid.
 pub fn open<K: Kind, B: Bank>(plan: Plan<K>, bank: B) -> Session<K, B>
     ensures same { result.plan ≡ plan }
-    ensures started { Started means (width_of plan.table.widths) result.bank }
+    ensures started { Started B.means (width_of plan.table.widths) result.bank }
     ensures right { (text : List ℕ) → PlanOf K.Kind text plan → EveryRun K.Kind B.Bank text result }
 {
     let mut bank = bank;

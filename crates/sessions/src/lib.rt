@@ -9,6 +9,9 @@
 //! `specs/Sessions.antt` what each call does, and `specs/Runs.antt` what `open` promises of every list of calls.
 //!
 //! With the plan of `.*a.{3}b`, after `session.lay(b'a')?; session.lay(b'a')?;` `session.need(&mut area)` is `Ok(3)`.
+
+#![tactic(auto)]
+
 mod calls;
 mod ends;
 mod rows;

@@ -14,9 +14,9 @@ use tables::Table;
 /// empty. Refused with `Full` where the bank cannot hold the new front; the front then stays. All that is promised of a bank
 /// in standing with the table's widths, a front within them and an empty back, as one is that was just started.
 pub fn step<B: Bank>(table: &Table, bank: &mut B, code: u8) -> Result<(), Refusal>
-    ensures answer { Fresh means table.now bank.old → Stepped means table.now code bank.old result bank.new }
-    ensures relation { Fresh means table.now bank.old → IsStep table.now code (means.front bank.old) (step_set table.now code (means.front bank.old)) }
-    ensures begins { (b : B) → Started means (width_of table.now.widths) b → Fresh means table.now b }
+    ensures answer { Fresh B.means table.now bank.old → Stepped B.means table.now code bank.old result bank.new }
+    ensures relation { Fresh B.means table.now bank.old → IsStep table.now code (B.means.front bank.old) (step_set table.now code (B.means.front bank.old)) }
+    ensures begins { (b : B) → Started B.means (width_of table.now.widths) b → Fresh B.means table.now b }
 {
     let gathered = gather(table, bank, code);
     finish(bank, gathered)
@@ -25,7 +25,7 @@ pub fn step<B: Bank>(table: &Table, bank: &mut B, code: u8) -> Result<(), Refusa
 // Ends a step by what gathering came to: turns the bank, or drops its back.
 fn finish<B: Bank>(bank: &mut B, gathered: Result<(), Refusal>) -> Result<(), Refusal>
     ensures value { result ≡ gathered }
-    ensures after { means.standing bank.old → Ended means gathered bank.old bank.new }
+    ensures after { B.means.standing bank.old → Ended B.means gathered bank.old bank.new }
 {
     match gathered {
         Ok(()) => bank.turn(),
@@ -36,7 +36,7 @@ fn finish<B: Bank>(bank: &mut B, gathered: Result<(), Refusal>) -> Result<(), Re
 
 /// Whether some pair of the front accepts: (0, 1) where the pattern is nullable, or a count at a last from its low on.
 pub fn accepts<B: Bank>(table: &Table, bank: &B) -> bool
-    ensures { Fresh means table.now bank.now → TellsAccepting table.now (means.front bank.now) result }
+    ensures { Fresh B.means table.now bank.now → TellsAccepting table.now (B.means.front bank.now) result }
 {
     if table.is_nullable() && bank.look(0, 1, 1) {
         return true;

@@ -7,6 +7,9 @@
 //!
 //! Over the table of `ab` and a started bank: after `step(&table, &mut bank, 0)?` the front is (1, 1) alone, and after
 //! `step(&table, &mut bank, 1)?` it is (2, 1) alone; then `accepts(&table, &bank)` is true.
+
+#![tactic(auto)]
+
 mod fronts;
 mod moves;
 

@@ -28,7 +28,7 @@ fn carry_if<B: Bank>(
     q: usize,
     raise: Raise,
 ) -> Result<(), Refusal>
-    ensures { Ready means bank.old → Gathered means (only_if linked (moved (means.front bank.old) p q (raise_by raise))) bank.old result bank.new }
+    ensures { Ready B.means bank.old → Gathered B.means (only_if linked (moved (B.means.front bank.old) p q (raise_by raise))) bank.old result bank.new }
 {
     if linked {
         bank.carry(p, q, raise)
@@ -39,7 +39,7 @@ fn carry_if<B: Bank>(
 
 // Whether the front has a count at p from its low to its width.
 pub(crate) fn can_leave<B: Bank>(table: &Table, bank: &B, p: usize) -> bool
-    ensures { means.standing bank.now → result ≡ seen (means.front bank.now) p (low_of table.now p) (width_of table.now.widths p) }
+    ensures { B.means.standing bank.now → result ≡ seen (B.means.front bank.now) p (low_of table.now p) (width_of table.now.widths p) }
 {
     bank.look(p, table.low_at(p), table.width_at(p))
 }
@@ -52,7 +52,7 @@ fn cross_if<B: Bank>(
     p: usize,
     q: usize,
 ) -> Result<(), Refusal>
-    ensures { Ready means bank.old → Gathered means (only_if (linked && seen (means.front bank.old) p (low_of table.now p) (width_of table.now.widths p)) (only q 1)) bank.old result bank.new }
+    ensures { Ready B.means bank.old → Gathered B.means (only_if (linked && seen (B.means.front bank.old) p (low_of table.now p) (width_of table.now.widths p)) (only q 1)) bank.old result bank.new }
 {
     if linked && can_leave(table, bank, p) {
         bank.add(q, 1)
@@ -63,7 +63,7 @@ fn cross_if<B: Bank>(
 
 // Follows the links from p to q.
 fn follow<B: Bank>(table: &Table, bank: &mut B, p: usize, q: usize) -> Result<(), Refusal>
-    ensures { Ready means bank.old → Gathered means (along table.now (means.front bank.old) p q) bank.old result bank.new }
+    ensures { Ready B.means bank.old → Gathered B.means (along table.now (B.means.front bank.old) p q) bank.old result bank.new }
 {
     let mask = table.links(p, q);
     carry_if(bank, has_link(mask, WITHIN), p, q, Raise::Nothing)?;
@@ -73,7 +73,7 @@ fn follow<B: Bank>(table: &Table, bank: &mut B, p: usize, q: usize) -> Result<()
 
 // Follows the links from p to every place that takes the code.
 fn leave<B: Bank>(table: &Table, bank: &mut B, code: u8, p: usize) -> Result<(), Refusal>
-    ensures { Ready means bank.old → Gathered means (leaving table.now code (means.front bank.old) p) bank.old result bank.new }
+    ensures { Ready B.means bank.old → Gathered B.means (leaving table.now code (B.means.front bank.old) p) bank.old result bank.new }
 {
     for q in 1..table.places() + 1 {
         if table.codes_at(q).has(code) {
@@ -85,7 +85,7 @@ fn leave<B: Bank>(table: &Table, bank: &mut B, code: u8, p: usize) -> Result<(),
 
 // Follows the links from every place where a count stands to every place that takes the code.
 pub(crate) fn gather<B: Bank>(table: &Table, bank: &mut B, code: u8) -> Result<(), Refusal>
-    ensures { Fresh means table.now bank.old → Gathered means (leaving_below table.now code (means.front bank.old) (table.now.places + 1)) bank.old result bank.new }
+    ensures { Fresh B.means table.now bank.old → Gathered B.means (leaving_below table.now code (B.means.front bank.old) (table.now.places + 1)) bank.old result bank.new }
 {
     for p in 0..table.places() + 1 {
         if bank.look(p, 1, table.width_at(p)) {

@@ -5,6 +5,9 @@
 //! All three serve any kind of symbols. `specs/Rows.antt` says what it is to spell a row.
 //!
 //! `read_row::<TilesAreKind>(heap, b"R0Y9")` is a row of two tiles; `b"R0Y"` is refused behind one symbol.
+
+#![tactic(auto)]
+
 mod row;
 
 pub use row::{RowRefusal, read_row, row_codes, spell_row};

@@ -42,7 +42,7 @@ pub fn read_row<K: Kind>(heap: Global, text: &[u8]) -> Result<Vec<K::Symbol>, Ro
 
 // The row that these bytes spell in units of this length.
 fn read_units<K: Kind>(heap: Global, text: &[u8], unit: usize) -> Result<Vec<K::Symbol>, RowRefusal>
-    requires { unit ≡ unit_length }
+    requires { unit ≡ K.unit_length }
     ensures { MatchResult result (λ row. Spells K.Kind text.now row.items) (λ e. ReadRefused K.Kind text.now e) }
 {
     let mut row = Vec::new(heap);

@@ -5,6 +5,9 @@
 //! Generic code may rest on these laws; `symbol_rows` goes from the bytes of a whole row to its symbols and back.
 //!
 //! `Letters::code_of(b'c')` is `Ok(2)`; `Tiles::unspell(b"G7")` is `Ok(Tile { colour: 1, face: 7 })`.
+
+#![tactic(auto)]
+
 mod kind;
 mod letters;
 mod tiles;

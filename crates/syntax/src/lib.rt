@@ -7,6 +7,9 @@
 //! The main types are `grammar::Node`, the tree, `grammar::Alphabet` and `refusals::Refusal`.
 //!
 //! `parse(heap, Alphabet::Letters, b"(a{2}){3}")` is `Err(Refusal::Nested(2))`.
+
+#![tactic(auto)]
+
 mod read;
 
 pub use read::parse;

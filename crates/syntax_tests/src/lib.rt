@@ -2,6 +2,9 @@
 //!
 //! The answers were worked out by hand from the rules, not taken from a run.
 //! A line `(b"a**", 2, 2)` says that the text is refused by number 2 at byte 2; 0 and 0 say that it is read.
+
+#![tactic(auto)]
+
 #[cfg(test)]
 mod tests {
     use grammar::Alphabet;

@@ -1,5 +1,5 @@
 -- What link masks and sets of places say.
-use Rattle.std.specs.Prelude.{◌≡◌, ℕ, ◌-◌, Bool, true, false, cond, ◌&&◌, List, replicate, bit_or, nat_lt, slice_index, slice_index_or, refl}
+use Rattle.std.specs.Prelude.{ℕ, ◌-◌, Bool, cond, ◌&&◌, List, replicate, bit_or, nat_lt, slice_index, slice_index_or, refl}
 use Rattle.std.proofs.Common.{lit<}
 use Rattle.bits.specs.declared.set.Set64.{Set64}
 use Rattle.bits.specs.Bit.{bit}

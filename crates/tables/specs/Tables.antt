@@ -1,5 +1,5 @@
 -- The table of a pattern: every field as the pattern's tree gives it.
-use Rattle.std.specs.Prelude.{◌≡◌, ℕ, ◌+◌, ◌≤◌, Bool, cond, ◌⊎◌, List, Decides, nat_le, slice_index, slice_index_or}
+use Rattle.std.specs.Prelude.{◌≡◌, ℕ, ◌≤◌, Bool, cond, ◌⊎◌, Decides, nat_le, slice_index, slice_index_or}
 use Rattle.automata.specs.Language.{Tree}
 use Rattle.automata.specs.Places.{size, nullable, First, Last, Holds, low, width}
 use Rattle.automata.specs.Links.{Within, Next, Cross}

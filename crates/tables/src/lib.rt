@@ -6,6 +6,9 @@
 //! `specs/Tables.antt` says, field by field, when a table is that of a pattern's tree.
 //!
 //! The table of `(a{2})*` has one place, of width 2 and low 2, and from it to itself a next and a cross link.
+
+#![tactic(auto)]
+
 mod reads;
 mod table;
 

@@ -6,6 +6,9 @@
 //! `Layout` lays the counts of all places into one row of 4,096, each place's after those of the places before it.
 //!
 //! `Widths::start_only().at(0)` is 1; `Widths::of(&w)` is `None` where w breaks one of the rules.
+
+#![tactic(auto)]
+
 mod calls;
 mod data;
 

@@ -6,6 +6,9 @@
 //! `worked_examples` does nothing but promise that every line holds, so that the crate is proved only with their proof.
 //!
 //! `worked_examples()` is 22.
+
+#![tactic(auto)]
+
 ghost use Rattle.std.specs.Prelude.{◌≡◌, length};
 ghost use Rattle.worked_examples.specs.Examples.{table, ExamplesHold};
 

@@ -1,5 +1,5 @@
 -- The words from lo on are looked through one by one; what is left of a word has the bits from lo on, below hi.
-use Rattle.std.proofs.Common.{◌≡◌, ℕ, ◌+◌, ◌-◌, ◌*◌, ◌/◌, ◌%◌, ◌^◌, ◌<◌, ◌≤◌, Bool, true, false, ◌&&◌, ltb, leb, length, get_or, sym, refl, ap, ◌∙◌, ⊎_elim, mod-lt, arith, pow_pos}
+use Rattle.std.proofs.Common.{◌≡◌, ℕ, ◌+◌, ◌-◌, ◌*◌, ◌/◌, ◌%◌, ◌^◌, ◌<◌, ◌≤◌, true, false, ◌&&◌, ltb, leb, get_or, sym, refl, ap, ◌∙◌, ⊎_elim, mod-lt, arith, pow_pos}
 use lib.Bits.{bit_and}
 use Rattle.std.proofs.lemmas.Bool.Decides.{nat_tests}
 use Rattle.bits.specs.Bit.{bit, bit_at}

@@ -1,6 +1,5 @@
 use Rattle.std.proofs.Common.{◌≡◌, ℕ, ◌+◌, ◌*◌, ◌/◌, ◌%◌, ap, ◌∙◌, arith}
 use Rattle.std.proofs.lemmas.Bool.Decides.{nat_tests}
-use Rattle.bits.specs.Bit.{bit_at}
 use Rattle.bit_bank.specs.Join.{joined}
 use Rattle.bit_bank.proofs.Join.{joined_more, whole, lowest}
 use Rattle.bit_bank.proofs.words.join.Goals as goal

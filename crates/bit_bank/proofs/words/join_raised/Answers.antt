@@ -1,7 +1,6 @@
 use Rattle.std.proofs.Common.{◌≡◌, ℕ, ◌+◌, ◌-◌, ◌*◌, ◌/◌, ◌%◌, ◌^◌, get_or, ap, ◌∙◌, subst, arith}
 use lib.Bits.{bit_and}
 use Rattle.std.proofs.lemmas.Bool.Decides.{nat_tests}
-use Rattle.bits.specs.Bit.{bit_at}
 use Rattle.bit_bank.specs.Join.{joined}
 use Rattle.bit_bank.proofs.Join.{Over, joined_more, over_none, over_more, raised, whole_raised, low_bits}
 use Rattle.bit_bank.proofs.words.join_raised.Goals as goal

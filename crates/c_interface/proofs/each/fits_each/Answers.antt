@@ -1,8 +1,6 @@
-use Rattle.std.proofs.Common.{◌≡◌, ℕ, ◌+◌, ◌≤◌, List, length, take, sym, refl, ◌∙◌, subst, inl, inr, arith, length-set}
+use Rattle.std.proofs.Common.{◌≡◌, ℕ, ◌+◌, length, take, sym, refl, ◌∙◌, subst, inl, inr, arith, length-set}
 use Rattle.std.proofs.lemmas.List.{get_or-set_other}
 use Rattle.symbols.specs.contracts.letters.LettersKind.TheImpl.{ghosts as letters}
-use Rattle.bit_bank.specs.contracts.calls.BitBankBank.TheImpl.{ghosts as bits}
-use Rattle.sessions.specs.Sessions.{StandsOn}
 use Rattle.par_report.proofs.NeverFull.{only_no_symbol}
 use Rattle.c_interface.specs.Told.{Tells, FitsTold}
 use Rattle.c_interface.proofs.Bytes.{laid_one, tells, tells_more}
@@ -16,11 +14,11 @@ loop-i-preserved c =
       simp length-set (omega arith),
       λ text on.
           let (st, told, rest) = c.loop-i.invariant.1 text on in
-          let next = laid_one text row i _ _ _ c.loop-i-test.true refl st c.in-default.ensures in (
+          let next = laid_one text row i _ _ _ c.loop-i-test.true refl st c.in_default.ensures in (
             next,
-            tells_more text row bytes i c.as-byte.result c.if-i-fits.false told
-                (subst (λ b. Tells text (take (i + 1) row) b) (sym c.as-byte.ensures) (tells text (take (i + 1) row) c.fits-yes.result _ _ next c.fits-yes.ensures)),
-            λ k far. get_or-set_other bytes i k c.as-byte.result 0 (λ is. omega arith) ∙ rest k (omega arith),
+            tells_more text row bytes i c.as_byte.result c.if-i-fits.false told
+                (subst (λ b. Tells text (take (i + 1) row) b) (sym c.as_byte.ensures) (tells text (take (i + 1) row) c.fits-yes.result _ _ next c.fits-yes.ensures)),
+            λ k far. get_or-set_other bytes i k c.as_byte.result 0 (λ is. omega arith) ∙ rest k (omega arith),
           ),
     )
 

@@ -2,5 +2,5 @@
 use Rattle.grammar.proofs.tree.Node.TheLaws.{the_size}
 use Rattle.checks.proofs.budget.+count_places.Given as goal
 
-abbrev pub decreases-count-places : goal.decreases-count-places
-decreases-count-places l = the_size l.n.now
+abbrev pub decreases-count_places : goal.decreases-count_places
+decreases-count_places l = the_size l.n.now

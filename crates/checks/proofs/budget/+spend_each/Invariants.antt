@@ -2,5 +2,5 @@
 use Rattle.grammar.proofs.tree.Node.TheLaws.{the_size}
 use Rattle.checks.proofs.budget.+spend_each.Given as goal
 
-abbrev pub decreases-spend-each : goal.decreases-spend-each
-decreases-spend-each l = the_size l.n.now
+abbrev pub decreases-spend_each : goal.decreases-spend_each
+decreases-spend_each l = the_size l.n.now

@@ -2,5 +2,5 @@
 use Rattle.grammar.proofs.tree.Node.TheLaws.{the_size}
 use Rattle.checks.proofs.leftmost.+backward_range.Given as goal
 
-abbrev pub decreases-backward-range : goal.decreases-backward-range
-decreases-backward-range l = the_size l.n.now
+abbrev pub decreases-backward_range : goal.decreases-backward_range
+decreases-backward_range l = the_size l.n.now

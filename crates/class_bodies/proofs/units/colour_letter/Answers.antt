@@ -14,6 +14,6 @@ pub returns-in-2 : goal.returns-in-2
 unfolding colour_of
 returns-in-2 c = (inr (inl refl), omega arith, omega arith)
 
-pub returns-in-default : goal.returns-in-default
+pub returns-in_default : goal.returns-in_default
 unfolding colour_of
-returns-in-default c = (inr (inr (inr (inr refl))), omega arith, omega arith)
+returns-in_default c = (inr (inr (inr (inr refl))), omega arith, omega arith)

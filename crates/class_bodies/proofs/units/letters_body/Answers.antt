@@ -9,10 +9,10 @@ loop-low-init c =
 
 pub loop-low-preserved : goal.loop-low-preserved
 loop-low-preserved c =
-    let bound = c.run-end-end.ensures.bound in
+    let bound = c.run_end-end.ensures.bound in
     let codes = c.args.codes in (
       omega arith,
       codes_like 1 _ _ _
-          (λ k. run_codes (member codes k) k c.loop-low.low c.run-end-end.result bound.0 bound.1 (c.run-end-end.ensures.before k) (λ e l. ap (member codes) e ∙ c.run-end-end.ensures.here l))
-          (c.in-ok-push-run.ensures _ c.loop-low.invariant.1),
+          (λ k. run_codes (member codes k) k c.loop-low.low c.run_end-end.result bound.0 bound.1 (c.run_end-end.ensures.before k) (λ e l. ap (member codes) e ∙ c.run_end-end.ensures.here l))
+          (c.in_ok-push_run.ensures _ c.loop-low.invariant.1),
     )

@@ -3,24 +3,24 @@ use Rattle.bits.specs.Members.{member}
 use Rattle.class_bodies.specs.ClassBody.{SpellsMore}
 use Rattle.class_bodies.proofs.UnitCodes.{more_like, more_more, codes_of_tile_lem, face_codes, no_face}
 use Rattle.class_bodies.proofs.units.push_faces.Goals as goal
-use Rattle.class_bodies.proofs.units.push_faces.Goals.{then-has+in-ok-push-tile, else-has}
+use Rattle.class_bodies.proofs.units.push_faces.Goals.{then-has+in_ok-push_tile, else-has}
 
 pub loop-face-preserved : goal.loop-face-preserved
 loop-face-preserved c =
     let codes = c.args.codes in
     let first = 10 * c.args.colour in
     let face = c.loop-face.face in
-    let letter = c.colour-letter-letter.ensures in
+    let letter = c.colour_letter-letter.ensures in
     let body = vec_items c.args.body.now in
     let so_far : ℕ → Bool = λ k. member codes k && (leb first k && ltb k (first + face)) in
     let and-more : ℕ → Bool = λ k. member codes k && (leb first k && ltb k (first + (face + 1))) in
     elim c.if-has.branch [
-      | then-has+in-ok-push-tile w ↦
+      | then-has+in_ok-push_tile w ↦
           subst (λ v. SpellsMore 2 body (vec_items v) and-more) (sym w.body-is)
           (more_like 2 _ _ _ _
-          (λ k. ap (λ v. so_far k || v) (codes_of_tile_lem c.colour-letter-letter.result c.args.colour face k letter.2 letter.1 c.requires c.loop-face-test.true)
+          (λ k. ap (λ v. so_far k || v) (codes_of_tile_lem c.colour_letter-letter.result c.args.colour face k letter.2 letter.1 c.requires c.loop-face-test.true)
           ∙ face_codes (member codes k) k first face (λ e. ap (member codes) e ∙ sym c.has.ensures ∙ w.if-has.true))
-          (more_more 2 _ _ _ _ _ c.loop-face.invariant w.in-ok-push-tile.ensures))
+          (more_more 2 _ _ _ _ _ c.loop-face.invariant w.in_ok-push_tile.ensures))
       | else-has w ↦
           subst (λ v. SpellsMore 2 body (vec_items v) and-more) (sym w.body-is)
           (more_like 2 _ _ _ _ (λ k. no_face (member codes k) k first face (λ e. ap (member codes) e ∙ sym c.has.ensures ∙ w.if-has.false)) c.loop-face.invariant)

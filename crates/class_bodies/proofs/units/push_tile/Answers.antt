@@ -9,5 +9,5 @@ returns c =
     let a = c.args.colour in
     let b = c.args.face in
     let s = vec_items c.args.body.now in
-    more_made 2 c.extend-from-slice.result s (a ∷ b ∷ []) _ _ c.extend-from-slice.ensures.items
+    more_made 2 c.extend_from_slice.result s (a ∷ b ∷ []) _ _ c.extend_from_slice.ensures.items
     (more_like 2 s _ _ _ (just_codes (codes_of_tile a b)) (tile_more s a b c.requires.0 c.requires.1))

@@ -7,4 +7,4 @@ loop-colour-init c = spells_none 2 _ _ c.new-body.ensures.items (λ k. none_belo
 
 pub loop-colour-preserved : goal.loop-colour-preserved
 loop-colour-preserved c =
-    codes_like 2 _ _ _ (λ k. colours_codes (member c.args.codes k) k c.loop-colour.colour) (c.in-ok-push-colour.ensures _ c.loop-colour.invariant)
+    codes_like 2 _ _ _ (λ k. colours_codes (member c.args.codes k) k c.loop-colour.colour) (c.in_ok-push_colour.ensures _ c.loop-colour.invariant)

@@ -11,6 +11,6 @@ returns g c =
       area = cleared _ _ _ long made.beyond c.wipe.ensures;
       short = λ less. absurd (omega arith);
       answer = λ full fresh e w formed some table front.
-          c.hint-from-code.ensures (g.B.Bank.means.front c.args.bank.now) (c.nearest-found.ensures e table fresh)
+          c.hint_from-code.ensures (g.B.Bank.means.front c.args.bank.now) (c.nearest-found.ensures e table fresh)
           made.labels e w formed some table front;
     }

@@ -1,4 +1,4 @@
-use Rattle.std.proofs.Common.{◌≡◌, true, false, ◌⊎◌, sym, refl, ap, ◌∙◌, inl, inr, arith}
+use Rattle.std.proofs.Common.{◌≡◌, false, ◌⊎◌, sym, ap, ◌∙◌, inl, inr, arith}
 use Rattle.std.proofs.lemmas.Bool.Decides.{not_from_Decides}
 use Rattle.std.proofs.lemmas.Bool.{cases_Bool}
 use Rattle.widths.specs.Width.{widths_of}
@@ -13,8 +13,8 @@ returns-then-look g c = λ stands h.
     let f = g.B.Bank.means.front c.args.bank.now in
     let (i, a, b, x) = (c.look.ensures stands).0 c.if-look.true in
     let e : i ≡ c.args.i = omega arith in
-    least_taken (mark_at (widths_of c.args.layout.now) c.args.area.now) f c.args.p c.args.i c.args.old c.mark-of-mark.result
-    c.mark-of-mark.ensures (sym c.improves.ensures ∙ c.if-improves.true) (sym (ap (f c.args.p) e) ∙ x) h
+    least_taken (mark_at (widths_of c.args.layout.now) c.args.area.now) f c.args.p c.args.i c.args.old c.mark_of-mark.result
+    c.mark_of-mark.ensures (sym c.improves.ensures ∙ c.if-improves.true) (sym (ap (f c.args.p) e) ∙ x) h
 
 pub returns : goal.returns
 returns g c = λ stands h.
@@ -26,6 +26,6 @@ returns g c = λ stands h.
         | inr x ↦ inr x
       ]
       | else-improves-via-else-improves w ↦
-          inl (sym (ap (improving c.args.old) c.mark-of-mark.ensures) ∙ sym c.improves.ensures ∙ w.if-improves.false)
+          inl (sym (ap (improving c.args.old) c.mark_of-mark.ensures) ∙ sym c.improves.ensures ∙ w.if-improves.false)
     ] in
     least_kept M f c.args.p c.args.i c.args.old why h

@@ -1,9 +1,9 @@
-use Rattle.std.proofs.Common.{◌≡◌, ℕ, ◌+◌, ◌≤◌, sym, ap, ◌∙◌, subst, arith}
+use Rattle.std.proofs.Common.{◌≡◌, ℕ, ◌≤◌, ◌∙◌, subst, arith}
 use Rattle.std.proofs.lemmas.Bool.Decides.{nat_tests}
 use Rattle.widths.specs.declared.data.Widths.{Widths}
 use Rattle.widths.specs.Width.{width_of, widths_of}
 use Rattle.distances.specs.Marks.{mark_at}
-use Rattle.completions.specs.Nearest.{before, LeastMark}
+use Rattle.completions.specs.Nearest.{LeastMark}
 use Rattle.completions.proofs.LeastMarks.{least_start, least_all}
 use Rattle.completions.proofs.nearest.nearest.Goals as goal
 
@@ -11,7 +11,7 @@ pub loop-p-init : goal.loop-p-init
 loop-p-init g c = λ fresh. least_start _ _ _ fresh.inside
 
 pub loop-p-preserved : goal.loop-p-preserved
-loop-p-preserved g c = λ fresh. c.nearest-at-best.ensures (c.of-layout.ensures ∙ c.widths.ensures) fresh (c.loop-p.invariant fresh)
+loop-p-preserved g c = λ fresh. c.nearest_at-best.ensures (c.of-layout.ensures ∙ c.widths.ensures) fresh (c.loop-p.invariant fresh)
 
 pub returns : goal.returns
 returns g c = λ e table fresh.

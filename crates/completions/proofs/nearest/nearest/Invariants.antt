@@ -1,4 +1,3 @@
-use Rattle.std.proofs.Common.{◌≡◌}
 use Rattle.widths.specs.Width.{widths_of}
 use Rattle.distances.specs.Marks.{mark_at}
 use Rattle.steps.specs.Fronts.{Fresh}

@@ -1,4 +1,4 @@
-use Rattle.std.proofs.Common.{◌≡◌, ℕ, ◌<◌, ◌≤◌, true, false, sym, ap, ◌∙◌, subst, inl, inr, arith}
+use Rattle.std.proofs.Common.{◌≡◌, ℕ, false, sym, ◌∙◌, subst, inl, inr, arith}
 use Rattle.std.proofs.lemmas.Bool.Decides.{eqb_tells}
 use Rattle.widths.specs.declared.data.Widths.{Widths}
 use Rattle.widths.specs.Width.{widths_of}
@@ -12,8 +12,8 @@ returns-then-leads c = λ e formed some table labels inside far mark.
     let t = c.args.table.now in
     let same : widths_of c.of-layout.result ≡ t.widths = c.of-layout.ensures ∙ c.widths.ensures in
     subst (λ (w : Widths). Towards e (mark_at w c.args.area.now) c.args.from c.least.result) same
-    (code_there e t table (mark_at (widths_of c.of-layout.result) c.args.area.now) c.args.from inside c.loop-q.q c.codes-at.result c.least.result some
-    (sym c.leads.ensures ∙ c.if-leads.true) c.codes-at.ensures c.least.ensures)
+    (code_there e t table (mark_at (widths_of c.of-layout.result) c.args.area.now) c.args.from inside c.loop-q.q c.codes_at.result c.least.result some
+    (sym c.leads.ensures ∙ c.if-leads.true) c.codes_at.ensures c.least.ensures)
 
 pub loop-q-preserved : goal.loop-q-preserved
 loop-q-preserved c = λ k low high.

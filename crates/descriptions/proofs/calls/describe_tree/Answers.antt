@@ -5,8 +5,8 @@ use Rattle.syntax.proofs.PlaceCounts.{length_places_of}
 use Rattle.descriptions.proofs.PlaceTold.{place_told, refused_memory}
 use Rattle.descriptions.proofs.calls.describe_tree.Goals as goal
 
-pub returns-in-default-places-of : goal.returns-in-default-places-of
-returns-in-default-places-of c =
+pub returns-in_default-places_of : goal.returns-in_default-places_of
+returns-in_default-places_of c =
     refused_memory c.args.kind c.args.pattern.now (ast_of c.args.node.now) c.requires
 
 pub returns : goal.returns
@@ -21,7 +21,7 @@ returns c =
       kind = refl;
       pattern = refl;
       table = of;
-      counts = c.counts-used-counts.ensures (tree_of t) of;
+      counts = c.counts_used-counts.ensures (tree_of t) of;
       many = many;
       each = λ k x h. place_told c.args.kind t c.in-Some.table k _ of c.requires.codes h (told.1 k x (omega (arith, many)));
     }

@@ -8,7 +8,7 @@ pub loop-p-preserved : goal.loop-p-preserved
 loop-p-preserved c =
     let f = width_of c.args.table.now.widths in
     let more = sum_more f c.loop-p.p in
-    let here = c.from-total-in-loop-p.ensures ∙ c.width-at-in-loop-p.ensures in
+    let here = c.from-total-in-loop-p.ensures ∙ c.width_at-in-loop-p.ensures in
     (omega (arith, more, here, c.loop-p.invariant.0), omega (arith, c.loop-p.invariant.1))
 
 pub returns : goal.returns

@@ -2,5 +2,5 @@
 use Rattle.grammar.proofs.tree.Node.TheLaws.{the_size}
 use Rattle.descriptions.proofs.starts.+push_starts.Given as goal
 
-abbrev pub decreases-push-starts : goal.decreases-push-starts
-decreases-push-starts l = the_size l.node.now
+abbrev pub decreases-push_starts : goal.decreases-push_starts
+decreases-push_starts l = the_size l.node.now

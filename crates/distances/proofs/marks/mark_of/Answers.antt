@@ -1,14 +1,14 @@
 -- A number that is no place has no count; a mark past the end of the area reads as 0.
-use Rattle.std.proofs.Common.{◌≡◌, ℕ, ◌+◌, ◌-◌, ◌≤◌, length, get_or, sym, ap, ◌∙◌, arith}
+use Rattle.std.proofs.Common.{◌+◌, ◌-◌, ◌≤◌, length, sym, ◌∙◌, arith}
 use Rattle.std.proofs.lemmas.List.{get_or_past}
-use Rattle.widths.specs.Width.{width_of, widths_of, base_of}
+use Rattle.widths.specs.Width.{widths_of, base_of}
 use Rattle.widths.proofs.Rows.{width_past}
 use Rattle.distances.proofs.Trees.{mark_at_lem}
 use Rattle.distances.proofs.marks.mark_of.Goals as goal
 
-pub returns-in-default : goal.returns-in-default
-returns-in-default c =
-    let z = width_past (widths_of c.args.layout.now) c.args.p c.in-default.ensures in
+pub returns-in_default : goal.returns-in_default
+returns-in_default c =
+    let z = width_past (widths_of c.args.layout.now) c.args.p c.in_default.ensures in
     let w : ⊥ = omega arith in
     absurd w
 

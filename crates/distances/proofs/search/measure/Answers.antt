@@ -21,19 +21,19 @@ returns-then-area-lt4096 c = record {
 }
 
 pub settle-requires : goal.settle-requires
-settle-requires c = record { long = omega arith; ground = ground_zero c.graph-of-graph.result c.wipe.new.area c.wipe.ensures.zero }
+settle-requires c = record { long = omega arith; ground = ground_zero c.graph_of-graph.result c.wipe.new.area c.wipe.ensures.zero }
 
 pub returns : goal.returns
 returns c =
-    let g = c.graph-of-graph.result in
-    let same : widths_of g.layout ≡ g.table.widths = c.graph-of-graph.ensures.widths ∙ sym (ap (λ (t : Table). t.widths) c.graph-of-graph.ensures.table) in
+    let g = c.graph_of-graph.result in
+    let same : widths_of g.layout ≡ g.table.widths = c.graph_of-graph.ensures.widths ∙ sym (ap (λ (t : Table). t.widths) c.graph_of-graph.ensures.table) in
     let l = c.settle.new.area in
     let long : 4096 ≤ length l = omega arith in
     record {
       value = grind (arith, nat_tests);
       refused = λ e. absurd (both_ways true e refl);
       made = λ _.
-          subst (λ (t : Table). Measured t c.args.area.now l) c.graph-of-graph.ensures.table
+          subst (λ (t : Table). Measured t c.args.area.now l) c.graph_of-graph.ensures.table
           (record {
             labels = λ e formed of. labels_met e formed g of same l long c.settle.ensures.ground c.settle.ensures.settled;
             spare = λ k h b. c.settle.ensures.behind k (subst (λ (w : Widths). base_of w 65 ≤ k) (sym same) h) ∙ c.wipe.ensures.zero k b;

@@ -1,4 +1,4 @@
-use Rattle.std.proofs.Common.{◌≡◌, ◌+◌, sym, ap, subst, arith}
+use Rattle.std.proofs.Common.{sym, ap, subst, arith}
 use Rattle.automata.specs.Places.{size}
 use Rattle.glushkov.specs.Nodes.{tree_in}
 use Rattle.glushkov.specs.Passes.{CountsOf}

@@ -1,4 +1,4 @@
-use Rattle.std.proofs.Common.{◌≡◌, sym, refl, ap, subst}
+use Rattle.std.proofs.Common.{sym, ap, subst}
 use Rattle.glushkov.specs.Nodes.{tree_in}
 use Rattle.glushkov.specs.Passes.{PartOf, LinksOf}
 use Rattle.glushkov.proofs.LinkLaws.{cat_links, alt_links, repeat_links, repeat_part, unit_links}
@@ -8,7 +8,7 @@ pub returns-in-Leaf : goal.returns-in-Leaf
 returns-in-Leaf t c =
     let e = ap tree_in c.in-Leaf.is in
     record {
-      part = subst (λ v. PartOf v c.args.offset c.one-place.result) (sym e) (c.one-place.ensures _);
+      part = subst (λ v. PartOf v c.args.offset c.one_place.result) (sym e) (c.one_place.ensures _);
       links = subst (λ v. LinksOf v c.args.offset c.args.inside c.args.rows.now c.args.rows.now) (sym e) (unit_links _ _ _ _);
     }
 
@@ -16,7 +16,7 @@ pub returns-in-Class : goal.returns-in-Class
 returns-in-Class t c =
     let e = ap tree_in c.in-Class.is in
     record {
-      part = subst (λ v. PartOf v c.args.offset c.one-place-in-Class.result) (sym e) (c.one-place-in-Class.ensures _);
+      part = subst (λ v. PartOf v c.args.offset c.one_place-in-Class.result) (sym e) (c.one_place-in-Class.ensures _);
       links = subst (λ v. LinksOf v c.args.offset c.args.inside c.args.rows.now c.args.rows.now) (sym e) (unit_links _ _ _ _);
     }
 
@@ -28,10 +28,10 @@ returns-in-Cat t c =
     let pb = rw c.deref-in-Cat.ensures at c.link-right.ensures.part in
     let lb = rw c.deref-in-Cat.ensures at c.link-right.ensures.links in
     record {
-      part = subst (λ v. PartOf v c.args.offset c.in-order.result) (sym e) (c.in-order.ensures _ _ _ pa pb);
+      part = subst (λ v. PartOf v c.args.offset c.in_order.result) (sym e) (c.in_order.ensures _ _ _ pa pb);
       links =
           subst (λ v. LinksOf v c.args.offset c.args.inside c.args.rows.now c.join.new.rows) (sym e)
-          (cat_links _ _ _ _ _ _ c.link-right.new.rows _ c.link-left.result c.link-right.result c.meeting-link.result c.meeting-link.ensures pa pb la lb c.join.ensures);
+          (cat_links _ _ _ _ _ _ c.link-right.new.rows _ c.link-left.result c.link-right.result c.meeting_link.result c.meeting_link.ensures pa pb la lb c.join.ensures);
     }
 
 pub returns-in-Alt : goal.returns-in-Alt
@@ -42,7 +42,7 @@ returns-in-Alt t c =
     let pb = rw c.deref-in-Alt-2.ensures at c.link-right-in-Alt.ensures.part in
     let lb = rw c.deref-in-Alt-2.ensures at c.link-right-in-Alt.ensures.links in
     record {
-      part = subst (λ v. PartOf v c.args.offset c.in-choice.result) (sym e) (c.in-choice.ensures _ _ _ pa pb);
+      part = subst (λ v. PartOf v c.args.offset c.in_choice.result) (sym e) (c.in_choice.ensures _ _ _ pa pb);
       links =
           subst (λ v. LinksOf v c.args.offset c.args.inside c.args.rows.now c.link-right-in-Alt.new.rows) (sym e)
           (alt_links _ _ _ _ _ _ _ c.link-left-in-Alt.result pa la lb);
@@ -55,9 +55,9 @@ returns-in-Repeat t c =
     let la = rw c.deref-in-Repeat.ensures at c.link-part.ensures.links in
     record {
       part =
-          subst (λ v. PartOf v c.args.offset record { upto = c.link-part.result.upto; nullable = c.can-be-empty.result; firsts = c.link-part.result.firsts; lasts = c.link-part.result.lasts }) (sym e)
-          (repeat_part c.in-Repeat.times _ _ c.link-part.result c.can-be-empty.result pa c.can-be-empty.ensures);
+          subst (λ v. PartOf v c.args.offset record { upto = c.link-part.result.upto; nullable = c.can_be_empty.result; firsts = c.link-part.result.firsts; lasts = c.link-part.result.lasts }) (sym e)
+          (repeat_part c.in-Repeat.times _ _ c.link-part.result c.can_be_empty.result pa c.can_be_empty.ensures);
       links =
           subst (λ v. LinksOf v c.args.offset c.args.inside c.args.rows.now c.join-in-Repeat.new.rows) (sym e)
-          (repeat_links c.in-Repeat.times _ _ c.args.inside c.inside-body.result _ c.link-part.new.rows _ c.link-part.result c.link-again.result c.inside-body.ensures c.link-again.ensures pa la c.join-in-Repeat.ensures);
+          (repeat_links c.in-Repeat.times _ _ c.args.inside c.inside_body.result _ c.link-part.new.rows _ c.link-part.result c.link_again.result c.inside_body.ensures c.link_again.ensures pa la c.join-in-Repeat.ensures);
     }

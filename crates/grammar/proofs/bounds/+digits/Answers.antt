@@ -24,12 +24,12 @@ returns-in-48-to-57 t c =
     let r = c.digits.ensures in
     record {
       inside = (omega (arith, r.inside), omega (arith, r.inside));
-      derives = subst (λ k. Digits s k c.args.so-far i c.digits.result.1 c.digits.result.0) (omega arith) (digit {c = get_or s i 0} (sym e) (omega arith, omega arith) r.derives);
+      derives = subst (λ k. Digits s k c.args.so_far i c.digits.result.1 c.digits.result.0) (omega arith) (digit {c = get_or s i 0} (sym e) (omega arith, omega arith) r.derives);
       full = λ d. omega (arith, r.full d);
     }
 
-pub returns-in-default : goal.returns-in-default
-returns-in-default t c =
+pub returns-in_default : goal.returns-in_default
+returns-in_default t c =
     let s = c.args.s.now in
     let i = c.args.at in
     let e = get_or_default s i 0 256 (omega arith) in
@@ -39,8 +39,8 @@ returns-in-default t c =
       full = λ d. absurd (omega (arith, e, d.0, d.1));
     }
 
-pub returns-in-default·2 : goal.returns-in-default·2
-returns-in-default·2 t c =
+pub returns-in_default-2 : goal.returns-in_default-2
+returns-in_default-2 t c =
     let s = c.args.s.now in
     let i = c.args.at in
     let e = get_or_default s i 0 256 (omega arith) in

@@ -11,16 +11,16 @@ use Rattle.grammar.proofs.bounds.bound.Goals as goal
 comma : {c : ℕ} → AfterNumber c → (c ≡ 125 → ⊥) → c ≡ 44
 comma a x = elim a [ inl e ↦ e | inr e ↦ absurd (x e) ]
 
-pub returns-in-err-low : goal.returns-in-err-low
-returns-in-err-low c =
-    exit (λ x. x) (c.args.at + 1) (bound_stops_in_low {s = c.args.s.now} c.requires.1) c.from-residual.result c.in-err-low.field-0.0 c.from-residual.ensures.1 c.in-err-low.ensures
+pub returns-in_err-low : goal.returns-in_err-low
+returns-in_err-low c =
+    exit (λ x. x) (c.args.at + 1) (bound_stops_in_low {s = c.args.s.now} c.requires.1) c.from_residual.result c.in_err-low.field-0.0 c.from_residual.ensures.1 c.in_err-low.ensures
 
-pub returns-then-next-is : goal.returns-then-next-is
-returns-then-next-is c =
+pub returns-then-next_is : goal.returns-then-next_is
+returns-then-next_is c =
     let s = c.args.s.now in
-    let a = c.in-ok-low.ensures in
-    let x = true-eqb (byte s c.in-ok-low.p) 125 c.if-next-is.ensures in
-    let l = within s c.in-ok-low.p (omega arith) in
+    let a = c.in_ok-low.ensures in
+    let x = true-eqb (byte s c.in_ok-low.p) 125 c.if-next_is.ensures in
+    let l = within s c.in_ok-low.p (omega arith) in
     record {
       ahead = omega arith;
       inside = omega arith;
@@ -31,26 +31,26 @@ returns-then-next-is c =
 pub number-requires-2 : goal.number-requires-2
 number-requires-2 c =
     let s = c.args.s.now in
-    let a = c.in-ok-low.ensures in
-    let x = comma a.after (false-eqb (byte s c.in-ok-low.p) 125 c.if-next-is.ensures) in
-    let l = within s c.in-ok-low.p (omega arith) in
+    let a = c.in_ok-low.ensures in
+    let x = comma a.after (false-eqb (byte s c.in_ok-low.p) 125 c.if-next_is.ensures) in
+    let l = within s c.in_ok-low.p (omega arith) in
     omega arith
 
-pub returns-in-err-high : goal.returns-in-err-high
-returns-in-err-high c =
+pub returns-in_err-high : goal.returns-in_err-high
+returns-in_err-high c =
     let s = c.args.s.now in
-    let a = c.in-ok-low.ensures in
-    let x = comma a.after (false-eqb (byte s c.in-ok-low.p) 125 c.if-next-is.ensures) in
-    exit (λ y. y) (c.args.at + 1) (bound_stops_in_high {s = s} c.requires.1 a x) c.from-residual-in-err-high.result c.in-err-high.field-0.0 c.from-residual-in-err-high.ensures.1 c.in-err-high.ensures
+    let a = c.in_ok-low.ensures in
+    let x = comma a.after (false-eqb (byte s c.in_ok-low.p) 125 c.if-next_is.ensures) in
+    exit (λ y. y) (c.args.at + 1) (bound_stops_in_high {s = s} c.requires.1 a x) c.from_residual-in_err-high.result c.in_err-high.field-0.0 c.from_residual-in_err-high.ensures.1 c.in_err-high.ensures
 
-pub returns-then-next-is-2 : goal.returns-then-next-is-2
-returns-then-next-is-2 c =
+pub returns-then-next_is-2 : goal.returns-then-next_is-2
+returns-then-next_is-2 c =
     let s = c.args.s.now in
-    let a = c.in-ok-low.ensures in
-    let b = c.in-ok-high.ensures in
-    let x = comma a.after (false-eqb (byte s c.in-ok-low.p) 125 c.if-next-is.ensures) in
-    let y = true-eqb (byte s c.in-ok-high.q) 125 c.if-next-is-2.ensures in
-    let l = within s c.in-ok-high.q (omega arith) in
+    let a = c.in_ok-low.ensures in
+    let b = c.in_ok-high.ensures in
+    let x = comma a.after (false-eqb (byte s c.in_ok-low.p) 125 c.if-next_is.ensures) in
+    let y = true-eqb (byte s c.in_ok-high.q) 125 c.if-next_is-2.ensures in
+    let l = within s c.in_ok-high.q (omega arith) in
     record {
       ahead = omega arith;
       inside = omega arith;
@@ -58,13 +58,13 @@ returns-then-next-is-2 c =
       after = tt;
     }
 
-pub returns-else-next-is-2 : goal.returns-else-next-is-2
-returns-else-next-is-2 c =
+pub returns-else-next_is-2 : goal.returns-else-next_is-2
+returns-else-next_is-2 c =
     let s = c.args.s.now in
-    let a = c.in-ok-low.ensures in
-    let b = c.in-ok-high.ensures in
-    let x = comma a.after (false-eqb (byte s c.in-ok-low.p) 125 c.if-next-is.ensures) in
-    let y = false-eqb (byte s c.in-ok-high.q) 125 c.if-next-is-2.ensures in
+    let a = c.in_ok-low.ensures in
+    let b = c.in_ok-high.ensures in
+    let x = comma a.after (false-eqb (byte s c.in_ok-low.p) 125 c.if-next_is.ensures) in
+    let y = false-eqb (byte s c.in_ok-high.q) 125 c.if-next_is-2.ensures in
     let z = comma b.after y in
-    let l = within s c.in-ok-high.q (omega arith) in
+    let l = within s c.in_ok-high.q (omega arith) in
     (l, bound_stops_after_high c.requires.1 a x b y)

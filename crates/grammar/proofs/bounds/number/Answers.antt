@@ -39,8 +39,8 @@ returns-in-44 c =
       after = elim c.in-44.is [ inl x ↦ inl (sym f ∙ x) | inr x ↦ inr (sym f ∙ x) ];
     }
 
-pub returns-in-default-s : goal.returns-in-default-s
-returns-in-default-s c =
+pub returns-in_default-s : goal.returns-in_default-s
+returns-in_default-s c =
     let s = c.args.s.now in
     let i = c.args.at in
     let q = c.digits-n.result.1 in
@@ -50,16 +50,16 @@ returns-in-default-s c =
     let d : Digits s 3 (byte s i - 48) (i + 1) q c.digits-n.result.0 = subst (λ v. Digits s 3 (v - 48) (i + 1) q c.digits-n.result.0) e h.derives in
     (c.if-p-s.false, number_stops_after_digits (omega arith, omega arith) d h.inside.1 (λ a. grind (arith, f, a)) (λ g. h.full g))
 
-pub returns-in-default : goal.returns-in-default
-returns-in-default c =
+pub returns-in_default : goal.returns-in_default
+returns-in_default c =
     let s = c.args.s.now in
     let i = c.args.at in
     let l : i < length s = omega arith in
     let e = get_or_default s i 0 256 l in
     (l, number_stops_first {s = s} {i = i} c.requires (λ d. omega (arith, e, d.0, d.1)))
 
-pub returns-in-default·2 : goal.returns-in-default·2
-returns-in-default·2 c =
+pub returns-in_default-2 : goal.returns-in_default-2
+returns-in_default-2 c =
     let s = c.args.s.now in
     let i = c.args.at in
     let l : i < length s = omega arith in

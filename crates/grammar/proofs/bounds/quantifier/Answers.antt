@@ -10,16 +10,16 @@ use Rattle.grammar.proofs.bounds.quantifier.Goals as goal
 pub bound-requires : goal.bound-requires
 bound-requires c = (c.requires.0, grind (arith, c.requires.1, get_or_default c.args.s.now c.args.at 0 256 c.requires.0))
 
-pub returns-in-err-bounds : goal.returns-in-err-bounds
-returns-in-err-bounds c =
+pub returns-in_err-bounds-in_default : goal.returns-in_err-bounds-in_default
+returns-in_err-bounds-in_default c =
     let s = c.args.s.now in
     let e : get_or s c.args.at 0 ≡ byte s c.args.at = get_or_default s c.args.at 0 256 c.requires.0 in
     let x : byte s c.args.at ≡ 123 = grind (arith, c.requires.1, e) in
-    exit repetition_of (c.args.at + 1) (quantifier_stops_in_bound {s = s} x) c.from-residual.result c.in-err-bounds.field-0.0 c.from-residual.ensures.1 c.in-err-bounds.ensures
+    exit repetition_of (c.args.at + 1) (quantifier_stops_in_bound {s = s} x) c.from_residual.result c.in_err-bounds-in_default.field-0.0 c.from_residual.ensures.1 c.in_err-bounds-in_default.ensures
 
-pub returns-in-ok-bounds : goal.returns-in-ok-bounds
-returns-in-ok-bounds c =
-    let h = c.in-ok-bounds.ensures in
+pub returns-in_ok-bounds-in_default : goal.returns-in_ok-bounds-in_default
+returns-in_ok-bounds-in_default c =
+    let h = c.in_ok-bounds-in_default.ensures in
     record { ahead = h.ahead; inside = h.inside; derives = with_bound h.derives; after = tt }
 
 pub returns-in-42 : goal.returns-in-42

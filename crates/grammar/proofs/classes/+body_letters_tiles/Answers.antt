@@ -11,7 +11,7 @@ use Rattle.grammar.proofs.Texts.{within, past}
 use Rattle.grammar.proofs.Spelling.{some_letters, pair_is, back_here, back_later}
 use Rattle.grammar.proofs.ClassStops.{body_stops_first, body_stops_after_letter, body_stops_at_high, body_stops_after_range, body_stops_in_tile, body_stops_after_tile}
 use Rattle.grammar.proofs.classes.+body_letters_tiles.Goals as goal
-use Rattle.grammar.proofs.classes.+body_letters_tiles.Goals.{letters-then-to-from, letters-else-to-from, letters-in-default-via-then-s-at-lt97, letters-in-default-via-else-s-at-lt97+else-this-lt123}
+use Rattle.grammar.proofs.classes.+body_letters_tiles.Goals.{letters-then-to-from, letters-else-to-from, letters-in_default-via-then-s-at-lt97, letters-in_default-via-else-s-at-lt97+else-this-lt123}
 
 pub body-returns-then-at-s : goal.body-returns-then-at-s
 body-returns-then-at-s t c =
@@ -22,27 +22,27 @@ body-returns-then-at-s t c =
 
 pub body-tiles-requires : goal.body-tiles-requires
 body-tiles-requires t c =
-    let x = false-eqb (byte c.args.s.now c.args.at) 93 c.if-next-is.ensures in
+    let x = false-eqb (byte c.args.s.now c.args.at) 93 c.if-next_is.ensures in
     (omega arith, (omega arith, omega arith, x))
 
-pub body-returns-in-default-2 : goal.body-returns-in-default-2
-body-returns-in-default-2 t c =
+pub body-returns-in_default-2 : goal.body-returns-in_default-2
+body-returns-in_default-2 t c =
     let s = c.args.s.now in
     let i = c.args.at in
     let l : i < length s = omega arith in
     let e : get_or s i 0 ≡ byte s i = get_or_default s i 0 256 l in
     (l, body_stops_first c.requires.2 (λ x. grind (arith, e, x)))
 
-pub body-returns-in-default-2·2 : goal.body-returns-in-default-2·2
-body-returns-in-default-2·2 t c =
+pub body-returns-in_default-2-2 : goal.body-returns-in_default-2-2
+body-returns-in_default-2-2 t c =
     let s = c.args.s.now in
     let i = c.args.at in
     let l : i < length s = omega arith in
     let e : get_or s i 0 ≡ byte s i = get_or_default s i 0 256 l in
     (l, body_stops_first c.requires.2 (λ x. grind (arith, e, x)))
 
-pub body-returns-then-next-is : goal.body-returns-then-next-is
-body-returns-then-next-is t c =
+pub body-returns-then-next_is : goal.body-returns-then-next_is
+body-returns-then-next_is t c =
     let s = c.args.s.now in
     let i = c.args.at in
     let u = c.args.unit in
@@ -51,24 +51,24 @@ body-returns-then-next-is t c =
       ahead = omega arith;
       inside = c.requires.2;
       derives = subst (λ x. Body u s i i x) (pair_is (fun_ext (λ k. sym (c.empty.ensures k))) refl) d;
-      after = true-eqb (byte s i) 93 c.if-next-is.ensures;
+      after = true-eqb (byte s i) 93 c.if-next_is.ensures;
     }
 
-pub letters-returns-in-err-rest : goal.letters-returns-in-err-rest
-letters-returns-in-err-rest t c =
+pub letters-returns-in_err-rest : goal.letters-returns-in_err-rest
+letters-returns-in_err-rest t c =
     let s = c.args.s.now in
     let i = c.args.at in
     let e : get_or s i 0 ≡ byte s i = get_or_default s i 0 256 c.requires.1 in
-    let x = false-eqb (byte s (i + 1)) 45 (sym c.if-not-next-is.true ∙ c.next-is.ensures) in
-    exit spelled i (body_stops_after_letter {s = s} c.requires.0 (subst Letter e c.requires.2) x) c.from-residual.result c.in-err-rest.field-0.0 c.from-residual.ensures.1 c.in-err-rest.ensures
+    let x = false-eqb (byte s (i + 1)) 45 (sym c.if-not-next_is.true ∙ c.next_is.ensures) in
+    exit spelled i (body_stops_after_letter {s = s} c.requires.0 (subst Letter e c.requires.2) x) c.from_residual.result c.in_err-rest.field-0.0 c.from_residual.ensures.1 c.in_err-rest.ensures
 
-pub letters-returns-then-not-next-is : goal.letters-returns-then-not-next-is
-letters-returns-then-not-next-is t c =
+pub letters-returns-then-not-next_is : goal.letters-returns-then-not-next_is
+letters-returns-then-not-next_is t c =
     let s = c.args.s.now in
     let i = c.args.at in
     let u = c.args.unit in
     let e : get_or s i 0 ≡ byte s i = get_or_default s i 0 256 c.requires.1 in
-    let k = c.in-ok-rest in
+    let k = c.in_ok-rest in
     let h = k.ensures in
     let d = one c.requires.0 (sym e) c.requires.2 h.derives in
     let m : joined_codes (codes_of_letter (get_or s i 0)) (member k.rest) ≡ member c.union.result =
@@ -85,19 +85,19 @@ letters-returns-then-at-s t c =
     let s = c.args.s.now in
     let i = c.args.at in
     let e : get_or s i 0 ≡ byte s i = get_or_default s i 0 256 c.requires.1 in
-    let x : byte s (i + 1) ≡ 45 = true-eqb _ _ (sym c.if-not-next-is.false ∙ c.next-is.ensures) in
+    let x : byte s (i + 1) ≡ 45 = true-eqb _ _ (sym c.if-not-next_is.false ∙ c.next_is.ensures) in
     let l = within s (i + 1) (omega arith) in
     let f : byte s (i + 2) ≡ 256 = past s (i + 2) c.if-at-s.true in
     (omega arith, body_stops_at_high c.requires.0 (subst Letter e c.requires.2) x (omega arith) (λ y. omega (arith, f, y.0, y.1)))
 
-pub letters-returns-in-err-rest-2 : goal.letters-returns-in-err-rest-2
-letters-returns-in-err-rest-2 t c =
+pub letters-returns-in_err-rest-in-97-to-122 : goal.letters-returns-in_err-rest-in-97-to-122
+letters-returns-in_err-rest-in-97-to-122 t c =
     let s = c.args.s.now in
     let i = c.args.at in
     let e : get_or s i 0 ≡ byte s i = get_or_default s i 0 256 c.requires.1 in
-    let x : byte s (i + 1) ≡ 45 = true-eqb _ _ (sym c.if-not-next-is.false ∙ c.next-is.ensures) in
+    let x : byte s (i + 1) ≡ 45 = true-eqb _ _ (sym c.if-not-next_is.false ∙ c.next_is.ensures) in
     let f : get_or s (i + 2) 0 ≡ byte s (i + 2) = get_or_default s (i + 2) 0 256 c.if-at-s.false in
-    exit spelled i (body_stops_after_range {s = s} c.requires.0 (subst Letter e c.requires.2) x (omega arith, omega arith)) c.from-residual-in-err-rest-2.result c.in-err-rest-2.field-0.0 c.from-residual-in-err-rest-2.ensures.1 c.in-err-rest-2.ensures
+    exit spelled i (body_stops_after_range {s = s} c.requires.0 (subst Letter e c.requires.2) x (omega arith, omega arith)) c.from_residual-in_err-rest-in-97-to-122.result c.in_err-rest-in-97-to-122.field-0.0 c.from_residual-in_err-rest-in-97-to-122.ensures.1 c.in_err-rest-in-97-to-122.ensures
 
 pub letters-returns-after-to-from : goal.letters-returns-after-to-from
 letters-returns-after-to-from t c =
@@ -106,10 +106,10 @@ letters-returns-after-to-from t c =
     let u = c.args.unit in
     let from = get_or s i 0 in
     let to = get_or s (i + 2) 0 in
-    let k = c.in-ok-rest-2 in
+    let k = c.in_ok-rest-in-97-to-122 in
     let e : get_or s i 0 ≡ byte s i = get_or_default s i 0 256 c.requires.1 in
     let f : to ≡ byte s (i + 2) = get_or_default s (i + 2) 0 256 c.if-at-s.false in
-    let x : byte s (i + 1) ≡ 45 = true-eqb _ _ (sym c.if-not-next-is.false ∙ c.next-is.ensures) in
+    let x : byte s (i + 1) ≡ 45 = true-eqb _ _ (sym c.if-not-next_is.false ∙ c.next_is.ensures) in
     let y : Letter to = (omega arith, omega arith) in
     let h = k.ensures in
     let d = range c.requires.0 (sym e) c.requires.2 x (sym f) y h.derives in
@@ -124,30 +124,30 @@ letters-returns-after-to-from t c =
       after = h.after;
     }
 
-pub letters-returns-in-default : goal.letters-returns-in-default
-letters-returns-in-default t c =
+pub letters-returns-in_default : goal.letters-returns-in_default
+letters-returns-in_default t c =
     let s = c.args.s.now in
     let i = c.args.at in
     let e : get_or s i 0 ≡ byte s i = get_or_default s i 0 256 c.requires.1 in
     let f : get_or s (i + 2) 0 ≡ byte s (i + 2) = get_or_default s (i + 2) 0 256 c.if-at-s.false in
-    let x : byte s (i + 1) ≡ 45 = true-eqb _ _ (sym c.if-not-next-is.false ∙ c.next-is.ensures) in
-    (c.if-at-s.false, body_stops_at_high c.requires.0 (subst Letter e c.requires.2) x (omega arith) (λ y. elim c.in-default.branch [ letters-in-default-via-then-s-at-lt97 w ↦ omega (arith, f, y.0, y.1, w) | letters-in-default-via-else-s-at-lt97+else-this-lt123 w ↦ omega (arith, f, y.0, y.1, w) ]))
+    let x : byte s (i + 1) ≡ 45 = true-eqb _ _ (sym c.if-not-next_is.false ∙ c.next_is.ensures) in
+    (c.if-at-s.false, body_stops_at_high c.requires.0 (subst Letter e c.requires.2) x (omega arith) (λ y. elim c.in_default.branch [ letters-in_default-via-then-s-at-lt97 w ↦ omega (arith, f, y.0, y.1, w) | letters-in_default-via-else-s-at-lt97+else-this-lt123 w ↦ omega (arith, f, y.0, y.1, w) ]))
 
-pub tiles-returns-in-err-first : goal.tiles-returns-in-err-first
-tiles-returns-in-err-first t c =
-    exit spelled c.args.at (body_stops_in_tile {s = c.args.s.now} c.requires.0 c.requires.2) c.from-residual.result c.in-err-first.field-0.0 c.from-residual.ensures.1 c.in-err-first.ensures
+pub tiles-returns-in_err-first : goal.tiles-returns-in_err-first
+tiles-returns-in_err-first t c =
+    exit spelled c.args.at (body_stops_in_tile {s = c.args.s.now} c.requires.0 c.requires.2) c.from_residual.result c.in_err-first.field-0.0 c.from_residual.ensures.1 c.in_err-first.ensures
 
-pub tiles-returns-in-err-rest : goal.tiles-returns-in-err-rest
-tiles-returns-in-err-rest t c =
-    exit spelled c.args.at (body_stops_after_tile {s = c.args.s.now} c.requires.0 c.requires.2 c.in-ok-first.ensures) c.from-residual-in-err-rest.result c.in-err-rest.field-0.0 c.from-residual-in-err-rest.ensures.1 c.in-err-rest.ensures
+pub tiles-returns-in_err-rest : goal.tiles-returns-in_err-rest
+tiles-returns-in_err-rest t c =
+    exit spelled c.args.at (body_stops_after_tile {s = c.args.s.now} c.requires.0 c.requires.2 c.in_ok-first.ensures) c.from_residual-in_err-rest.result c.in_err-rest.field-0.0 c.from_residual-in_err-rest.ensures.1 c.in_err-rest.ensures
 
 pub tiles-returns : goal.tiles-returns
 tiles-returns t c =
     let s = c.args.s.now in
     let i = c.args.at in
     let u = c.args.unit in
-    let a = c.in-ok-first.ensures in
-    let k = c.in-ok-rest in
+    let a = c.in_ok-first.ensures in
+    let k = c.in_ok-rest in
     let h = k.ensures in
     let d = tiles c.requires.0 a.derives h.derives in
     record {

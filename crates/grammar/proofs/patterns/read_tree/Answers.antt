@@ -8,25 +8,25 @@ use Rattle.grammar.proofs.Exits.{told}
 use Rattle.grammar.proofs.Whole.{one_tree, too_many}
 use Rattle.grammar.proofs.patterns.read_tree.Goals as goal
 
-pub returns-in-err-tree : goal.returns-in-err-tree
-returns-in-err-tree c =
+pub returns-in_err-tree : goal.returns-in_err-tree
+returns-in_err-tree c =
     let s = c.args.text.now in
-    let e = c.in-err-tree.field-0.0 in
-    let h = subst (λ u. Faults Ast (Pattern u) AfterPattern s 0 e) c.unit-length.ensures.0 c.in-err-tree.ensures in
-    told c.args.alphabet s c.from-residual.result e c.from-residual.ensures.1 h
+    let e = c.in_err-tree.field-0.0 in
+    let h = subst (λ u. Faults Ast (Pattern u) AfterPattern s 0 e) c.unit_length.ensures.0 c.in_err-tree.ensures in
+    told c.args.alphabet s c.from_residual.result e c.from_residual.ensures.1 h
 
 pub returns-then-p-text : goal.returns-then-p-text
 returns-then-p-text c =
-    let k = c.in-ok-tree in
-    let r = subst (λ u. Read Ast (Pattern u) AfterPattern c.args.text.now 0 0 k.p (ast_of k.tree)) c.unit-length.ensures.0 k.ensures in
+    let k = c.in_ok-tree in
+    let r = subst (λ u. Read Ast (Pattern u) AfterPattern c.args.text.now 0 0 k.p (ast_of k.tree)) c.unit_length.ensures.0 k.ensures in
     too_many r c.if-p-text.true
 
 pub returns-else-p-text : goal.returns-else-p-text
 returns-else-p-text c =
     let s = c.args.text.now in
     let u = unit_of c.args.alphabet in
-    let k = c.in-ok-tree in
+    let k = c.in_ok-tree in
     let n = ast_of k.tree in
-    let r = subst (λ v. Read Ast (Pattern v) AfterPattern s 0 0 k.p n) c.unit-length.ensures.0 k.ensures in
+    let r = subst (λ v. Read Ast (Pattern v) AfterPattern s 0 0 k.p n) c.unit_length.ensures.0 k.ensures in
     let d : IsPattern u s n = subst (λ q. Pattern u s 0 q n) (omega (arith, r.inside)) r.derives in
     (d, λ t e. one_tree u s n t d e)

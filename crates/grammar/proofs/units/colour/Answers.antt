@@ -16,6 +16,6 @@ pub returns-in-66 : goal.returns-in-66
 unfolding colour_of
 returns-in-66 c = (sym (ap colour_of c.in-66.is), lit< tt)
 
-pub returns-in-default : goal.returns-in-default
+pub returns-in_default : goal.returns-in_default
 unfolding colour_of
-returns-in-default c = (grind (arith, nat_tests), lit< tt)
+returns-in_default c = (grind (arith, nat_tests), lit< tt)

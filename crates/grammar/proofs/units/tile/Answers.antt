@@ -16,14 +16,14 @@ returns-in-82 c =
     let f : byte s (i + 1) ≡ 256 = past s (i + 1) (omega arith) in
     (c.if-at-s.true, unit_stops_face c.requires.0 (subst ColourUnit e c.in-82.is) (omega arith) (λ x. grind (arith, f, x)))
 
-pub returns-then-is-face : goal.returns-then-is-face
-returns-then-is-face c =
+pub returns-then-is_face : goal.returns-then-is_face
+returns-then-is_face c =
     let s = c.args.s.now in
     let i = c.args.at in
     let u = c.args.unit in
     let e : get_or s i 0 ≡ byte s i = get_or_default s i 0 256 c.requires.1 in
     let f : get_or s (i + 1) 0 ≡ byte s (i + 1) = get_or_default s (i + 1) 0 256 (omega arith) in
-    let d : OneUnit u s i (i + 2) (codes_of_tile (get_or s i 0) (get_or s (i + 1) 0)) = tile c.requires.0 (sym e) c.in-82.is (sym f) (c.if-is-face.ensures.0 refl) in
+    let d : OneUnit u s i (i + 2) (codes_of_tile (get_or s i 0) (get_or s (i + 1) 0)) = tile c.requires.0 (sym e) c.in-82.is (sym f) (c.if-is_face.ensures.0 refl) in
     record {
       ahead = omega arith;
       inside = omega arith;
@@ -31,17 +31,17 @@ returns-then-is-face c =
       after = tt;
     }
 
-pub returns-else-is-face : goal.returns-else-is-face
-returns-else-is-face c =
+pub returns-else-is_face : goal.returns-else-is_face
+returns-else-is_face c =
     let s = c.args.s.now in
     let i = c.args.at in
     let e : get_or s i 0 ≡ byte s i = get_or_default s i 0 256 c.requires.1 in
     let l : i + 1 < length s = omega arith in
     let f : get_or s (i + 1) 0 ≡ byte s (i + 1) = get_or_default s (i + 1) 0 256 l in
-    (l, unit_stops_face c.requires.0 (subst ColourUnit e c.in-82.is) (omega arith) (λ x. false≢true (c.if-is-face.ensures.1 (subst FaceUnit (sym f) x))))
+    (l, unit_stops_face c.requires.0 (subst ColourUnit e c.in-82.is) (omega arith) (λ x. false≢true (c.if-is_face.ensures.1 (subst FaceUnit (sym f) x))))
 
-pub returns-in-default : goal.returns-in-default
-returns-in-default c =
+pub returns-in_default : goal.returns-in_default
+returns-in_default c =
     let s = c.args.s.now in
     let i = c.args.at in
     let e : get_or s i 0 ≡ byte s i = get_or_default s i 0 256 c.requires.1 in

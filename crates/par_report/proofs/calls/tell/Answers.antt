@@ -1,4 +1,4 @@
-use Rattle.std.proofs.Common.{arith, lit≤}
+use Rattle.std.proofs.Common.{lit≤}
 use Rattle.par_report.proofs.calls.tell.Goals as goal
 
 pub returns-in-Ok : goal.returns-in-Ok

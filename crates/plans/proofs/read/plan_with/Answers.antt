@@ -1,4 +1,4 @@
 use Rattle.plans.proofs.read.plan_with.Goals as goal
 
-pub invariant-of-result : goal.invariant-of-result
-invariant-of-result g c = (∣ (c.args.alphabet, c.args.text.now, c.requires) ∣₁, tt)
+pub invariant_of-result : goal.invariant_of-result
+invariant_of-result g c = record { made = ∣ (c.args.alphabet, c.args.text.now, c.requires) ∣₁ }

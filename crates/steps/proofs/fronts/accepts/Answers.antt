@@ -4,19 +4,19 @@ use Rattle.std.proofs.lemmas.Bool.Decides.{not_from_Decides}
 use Rattle.steps.proofs.Any.{Seen}
 use Rattle.steps.proofs.Accepting.{start_accepts, last_accepts, none_accepts}
 use Rattle.steps.proofs.fronts.accepts.Goals as goal
-use Rattle.steps.proofs.fronts.accepts.Goals.{else-is-nullable-via-then-is-nullable+else-look, else-is-nullable-via-else-is-nullable}
+use Rattle.steps.proofs.fronts.accepts.Goals.{else-is_nullable-via-then-is_nullable+else-look, else-is_nullable-via-else-is_nullable}
 
 pub returns-then-look : goal.returns-then-look
 returns-then-look g c = λ fresh e table. (
   (λ _. start_accepts e c.args.table.now table (g.B.Bank.means.front c.args.bank.now)
-      (sym c.is-nullable.ensures ∙ c.if-is-nullable.true) ((c.look.ensures fresh.stands).0 c.if-look.true)),
+      (sym c.is_nullable.ensures ∙ c.if-is_nullable.true) ((c.look.ensures fresh.stands).0 c.if-look.true)),
   (λ _. refl),
 )
 
-pub returns-then-can-leave : goal.returns-then-can-leave
-returns-then-can-leave g c = λ fresh e table. (
+pub returns-then-can_leave : goal.returns-then-can_leave
+returns-then-can_leave g c = λ fresh e table. (
   (λ _. last_accepts e c.args.table.now table (g.B.Bank.means.front c.args.bank.now) c.loop-p.p
-      (sym c.is-last.ensures ∙ c.if-is-last.true) (sym (c.can-leave.ensures fresh.stands) ∙ c.if-can-leave.true)),
+      (sym c.is_last.ensures ∙ c.if-is_last.true) (sym (c.can_leave.ensures fresh.stands) ∙ c.if-can_leave.true)),
   (λ _. refl),
 )
 
@@ -24,11 +24,11 @@ pub returns : goal.returns
 returns g c = λ fresh e table.
     let t = c.args.table.now in
     let f = g.B.Bank.means.front c.args.bank.now in
-    let start : t.nullable ≡ true → Seen f 0 1 1 → ⊥ = λ n. elim c.else-is-nullable.branch [
-      | else-is-nullable-via-then-is-nullable+else-look w ↦
+    let start : t.nullable ≡ true → Seen f 0 1 1 → ⊥ = λ n. elim c.else-is_nullable.branch [
+      | else-is_nullable-via-then-is_nullable+else-look w ↦
           not_from_Decides w.look.result (w.look.ensures fresh.stands) w.if-look.false
-      | else-is-nullable-via-else-is-nullable w ↦
-          λ _. both_ways t.nullable (sym c.is-nullable.ensures ∙ w.if-is-nullable.false) n
+      | else-is_nullable-via-else-is_nullable w ↦
+          λ _. both_ways t.nullable (sym c.is_nullable.ensures ∙ w.if-is_nullable.false) n
     ] in
     let no = none_accepts e t table f fresh.inside start
     (λ k below. c.loop-p.invariant fresh.stands k (omega arith)) in

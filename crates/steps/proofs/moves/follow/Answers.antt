@@ -6,31 +6,31 @@ use Rattle.steps.proofs.Gathers.{gathered_ready}
 use Rattle.steps.proofs.Follows.{by_within, by_next, by_cross, gathered_at, within_refused, next_refused, links_followed}
 use Rattle.steps.proofs.moves.follow.Goals as goal
 
-pub returns-in-err-carry-if : goal.returns-in-err-carry-if
-returns-in-err-carry-if g c = λ ready.
+pub returns-in_err-carry_if : goal.returns-in_err-carry_if
+returns-in_err-carry_if g c = λ ready.
     let m = g.B.Bank.means in
     let t = c.args.table.now in
     let p = c.args.p in
     let q = c.args.q in
     let f = m.front c.args.bank.now in
-    let e₀ : c.has-link.result ≡ within (links_of t p q) = c.has-link.ensures.bit 0 (omega arith) ∙ ap within c.links-mask.ensures in
-    let h₀ = gathered_at m (by_within p q) _ _ f f _ _ _ e₀ refl (c.in-err-carry-if.ensures ready) in
-    let x = err_from_is_err_and c.from-residual.result c.from-residual.ensures.1 in
+    let e₀ : c.has_link.result ≡ within (links_of t p q) = c.has_link.ensures.bit 0 (omega arith) ∙ ap within c.links-mask.ensures in
+    let h₀ = gathered_at m (by_within p q) _ _ f f _ _ _ e₀ refl (c.in_err-carry_if.ensures ready) in
+    let x = err_from_is_err_and c.from_residual.result c.from_residual.ensures.1 in
     rw (x.1, x.2) (within_refused m t f p q g.met.B.Bank.facts _ _ _ ready.stands h₀)
 
-pub returns-in-err-carry-if-2 : goal.returns-in-err-carry-if-2
-returns-in-err-carry-if-2 g c = λ ready.
+pub returns-in_err-carry_if-2 : goal.returns-in_err-carry_if-2
+returns-in_err-carry_if-2 g c = λ ready.
     let m = g.B.Bank.means in
     let t = c.args.table.now in
     let p = c.args.p in
     let q = c.args.q in
     let f = m.front c.args.bank.now in
-    let e₀ : c.has-link.result ≡ within (links_of t p q) = c.has-link.ensures.bit 0 (omega arith) ∙ ap within c.links-mask.ensures in
-    let e₁ : c.has-link-2.result ≡ next (links_of t p q) = c.has-link-2.ensures.bit 1 (omega arith) ∙ ap next c.links-mask.ensures in
-    let h₀ = gathered_at m (by_within p q) _ _ f f _ _ _ e₀ refl (c.in-ok-carry-if.ensures ready) in
+    let e₀ : c.has_link.result ≡ within (links_of t p q) = c.has_link.ensures.bit 0 (omega arith) ∙ ap within c.links-mask.ensures in
+    let e₁ : c.has_link-2.result ≡ next (links_of t p q) = c.has_link-2.ensures.bit 1 (omega arith) ∙ ap next c.links-mask.ensures in
+    let h₀ = gathered_at m (by_within p q) _ _ f f _ _ _ e₀ refl (c.in_ok-carry_if.ensures ready) in
     let r₁ = gathered_ready m _ _ _ h₀ in
-    let h₁ = gathered_at m (by_next p q) _ _ _ f _ _ _ e₁ h₀.front_stays (c.in-err-carry-if-2.ensures r₁) in
-    let x = err_from_is_err_and c.from-residual-in-err-carry-if-2.result c.from-residual-in-err-carry-if-2.ensures.1 in
+    let h₁ = gathered_at m (by_next p q) _ _ _ f _ _ _ e₁ h₀.front_stays (c.in_err-carry_if-2.ensures r₁) in
+    let x = err_from_is_err_and c.from_residual-in_err-carry_if-2.result c.from_residual-in_err-carry_if-2.ensures.1 in
     rw (x.1, x.2) (next_refused m t f p q g.met.B.Bank.facts _ _ _ _ ready.stands h₀ h₁)
 
 pub returns : goal.returns
@@ -40,12 +40,12 @@ returns g c = λ ready.
     let p = c.args.p in
     let q = c.args.q in
     let f = m.front c.args.bank.now in
-    let e₀ : c.has-link.result ≡ within (links_of t p q) = c.has-link.ensures.bit 0 (omega arith) ∙ ap within c.links-mask.ensures in
-    let e₁ : c.has-link-2.result ≡ next (links_of t p q) = c.has-link-2.ensures.bit 1 (omega arith) ∙ ap next c.links-mask.ensures in
-    let e₂ : c.has-link-3.result ≡ cross (links_of t p q) = c.has-link-3.ensures.bit 2 (omega arith) ∙ ap cross c.links-mask.ensures in
-    let h₀ = gathered_at m (by_within p q) _ _ f f _ _ _ e₀ refl (c.in-ok-carry-if.ensures ready) in
+    let e₀ : c.has_link.result ≡ within (links_of t p q) = c.has_link.ensures.bit 0 (omega arith) ∙ ap within c.links-mask.ensures in
+    let e₁ : c.has_link-2.result ≡ next (links_of t p q) = c.has_link-2.ensures.bit 1 (omega arith) ∙ ap next c.links-mask.ensures in
+    let e₂ : c.has_link-3.result ≡ cross (links_of t p q) = c.has_link-3.ensures.bit 2 (omega arith) ∙ ap cross c.links-mask.ensures in
+    let h₀ = gathered_at m (by_within p q) _ _ f f _ _ _ e₀ refl (c.in_ok-carry_if.ensures ready) in
     let r₁ = gathered_ready m _ _ _ h₀ in
-    let h₁ = gathered_at m (by_next p q) _ _ _ f _ _ _ e₁ h₀.front_stays (c.in-ok-carry-if-2.ensures r₁) in
+    let h₁ = gathered_at m (by_next p q) _ _ _ f _ _ _ e₁ h₀.front_stays (c.in_ok-carry_if-2.ensures r₁) in
     let r₂ = gathered_ready m _ _ _ h₁ in
-    let h₂ = gathered_at m (by_cross t p q) _ _ _ f _ _ _ e₂ (h₁.front_stays ∙ h₀.front_stays) (c.cross-if.ensures r₂) in
+    let h₂ = gathered_at m (by_cross t p q) _ _ _ f _ _ _ e₂ (h₁.front_stays ∙ h₀.front_stays) (c.cross_if.ensures r₂) in
     links_followed m t f p q _ _ _ _ _ h₀ h₁ h₂

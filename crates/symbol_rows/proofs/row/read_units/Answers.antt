@@ -1,12 +1,12 @@
-use Rattle.std.proofs.Common.{◌≡◌, ◌+◌, ◌-◌, ◌≤◌, [], ◌∷◌, ◌++◌, length, take, drop, vec_items, sym, refl, ap, ◌∙◌, subst, inr, arith, rules}
+use Rattle.std.proofs.Common.{◌≡◌, ◌-◌, ◌≤◌, [], ◌∷◌, ◌++◌, length, take, vec_items, sym, refl, ap, ◌∙◌, subst, inr, arith, rules}
 use Rattle.std.proofs.lemmas.List.{take_all}
 use Rattle.symbol_rows.specs.Rows.{Spells, BrokenAfter, ReadRefused, unit_of}
 use Rattle.symbol_rows.proofs.Spelling.{spells_more, broken_after, take_join}
 use Rattle.symbol_rows.proofs.row.read_units.Goals as goal
 use Rattle.symbol_rows.proofs.row.read_units.Goals.{then-left-unit, else-left-unit}
 
-pub returns-in-default : goal.returns-in-default
-returns-in-default g c =
+pub returns-in_default : goal.returns-in_default
+returns-in_default g c =
     let k = g.K.Kind in
     let text = c.args.text.now in
     let at = c.loop-at.at in
@@ -14,7 +14,7 @@ returns-in-default g c =
     let size : k.unit_length ≤ length text - at → c.if-left-unit.end - at ≡ k.unit_length =
     elim c.if-left-unit.branch [ then-left-unit w ↦ λ h. omega (arith, w.end-is, w.if-left-unit.true, c.requires) | else-left-unit w ↦ λ h. omega (arith, w.end-is, c.requires) ] in
     let count : length row ≡ c.len-before.result = search rules in
-    subst (ReadRefused k text) (sym c.no-symbol.ensures) (inr (refl, subst (BrokenAfter k text) count (broken_after k text at (c.if-left-unit.end - at) row c.loop-at-test.true g.met.K.Kind.short.1 g.met.K.Kind.long size c.loop-at.invariant.1 c.in-default.ensures.1)))
+    subst (ReadRefused k text) (sym c.no_symbol.ensures) (inr (refl, subst (BrokenAfter k text) count (broken_after k text at (c.if-left-unit.end - at) row c.loop-at-test.true g.met.K.Kind.short.1 g.met.K.Kind.long size c.loop-at.invariant.1 c.in_default.ensures.1)))
 
 pub loop-at-preserved : goal.loop-at-preserved
 loop-at-preserved g c =

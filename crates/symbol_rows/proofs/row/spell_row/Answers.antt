@@ -13,9 +13,9 @@ loop-n-preserved g c =
     let s = c.index-row-n.result in
     let said = answered (k.valid s) c.in-Ok.spelled (k.spelled s) _ c.in-Ok.ensures in
     let more : take (i + 1) row ≡ take i row ++ s ∷ [] = take_more row i s (search rules) ∙ ap (λ x. take i row ++ x ∷ []) (sym c.index-row-n.is) in
-    let added : vec_items c.extend-from-slice.new.self ≡ vec_items c.loop-n.bytes ++ take k.unit_length c.in-Ok.spelled = search rules in
+    let added : vec_items c.extend_from_slice.new.self ≡ vec_items c.loop-n.bytes ++ take k.unit_length c.in-Ok.spelled = search rules in
     let unit : take k.unit_length c.in-Ok.spelled ≡ unit_of k s = ap (take k.unit_length) said.1 in
-    let bytes : vec_items c.extend-from-slice.new.self ≡ vec_items c.loop-n.bytes ++ unit_of k s = cc in
+    let bytes : vec_items c.extend_from_slice.new.self ≡ vec_items c.loop-n.bytes ++ unit_of k s = cc in
     subst (λ b. Spells k b (take (i + 1) row)) (sym bytes) (subst (Spells k _) (sym more) (spells_more k (vec_items c.loop-n.bytes) (take i row) s c.loop-n.invariant said.0))
 
 pub returns : goal.returns

@@ -7,16 +7,16 @@ use Rattle.syntax.proofs.read.parse.Goals as goal
 pub returns-then-text-gt-LONGEST : goal.returns-then-text-gt-LONGEST
 returns-then-text-gt-LONGEST c = too_long c.args.alphabet c.args.text.now (omega arith)
 
-pub returns-in-err-tree : goal.returns-in-err-tree
-returns-in-err-tree c =
-    read_refused c.args.alphabet c.args.text.now c.from-residual.result c.in-err-tree.field-0.0 (omega arith) c.from-residual.ensures.1 c.in-err-tree.ensures
+pub returns-in_err-tree : goal.returns-in_err-tree
+returns-in_err-tree c =
+    read_refused c.args.alphabet c.args.text.now c.from_residual.result c.in_err-tree.field-0.0 (omega arith) c.from_residual.ensures.1 c.in_err-tree.ensures
 
-pub returns-in-err-check : goal.returns-in-err-check
-returns-in-err-check c =
-    let h = c.in-ok-tree.ensures in
-    check_refused c.args.alphabet c.args.text.now (ast_of c.in-ok-tree.tree) h.0 (omega arith) c.from-residual-in-err-check.result c.in-err-check.field-0.0 c.from-residual-in-err-check.ensures.1 c.in-err-check.ensures
+pub returns-in_err-check : goal.returns-in_err-check
+returns-in_err-check c =
+    let h = c.in_ok-tree.ensures in
+    check_refused c.args.alphabet c.args.text.now (ast_of c.in_ok-tree.tree) h.0 (omega arith) c.from_residual-in_err-check.result c.in_err-check.field-0.0 c.from_residual-in_err-check.ensures.1 c.in_err-check.ensures
 
 pub returns : goal.returns
 returns c =
-    let h = c.in-ok-tree.ensures in
-    accepted c.args.alphabet c.args.text.now (ast_of c.in-ok-tree.tree) h.0 (omega arith) h.1 c.in-ok-check.ensures
+    let h = c.in_ok-tree.ensures in
+    accepted c.args.alphabet c.args.text.now (ast_of c.in_ok-tree.tree) h.0 (omega arith) h.1 c.in_ok-check.ensures

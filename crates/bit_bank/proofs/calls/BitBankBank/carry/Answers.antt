@@ -1,4 +1,4 @@
-use Rattle.std.proofs.Common.{◌≡◌, ℕ, ◌-◌, min, get_or, ap, ◌∙◌, inl, inr, ⊎_elim, arith}
+use Rattle.std.proofs.Common.{ℕ, ◌-◌, min, get_or, ap, ◌∙◌, inl, inr, ⊎_elim, arith}
 use Rattle.banks.specs.Pairs.{moved}
 use Rattle.banks.specs.Raises.{raise_by}
 use Rattle.bit_bank.specs.Means.{pairs_in}
@@ -18,13 +18,13 @@ returns-in-Nothing c = λ _.
     let b = c.args.self.now in
     carry_done b c.args.raise c.args.p c.args.q 0 c.min-n.result _ _ c.join.new.dst (omega arith) (omega arith) (omega arith)
     (ap raise_by c.in-Nothing.is)
-    (c.min-n.ensures ∙ ap (λ (x : ℕ). min (get_or b.rows.widths c.args.p 0) x) (c.saturating-sub-room.ensures ∙ ap (λ (x : ℕ). get_or b.rows.widths c.args.q 0 - x) c.by.ensures))
+    (c.min-n.ensures ∙ ap (λ (x : ℕ). min (get_or b.rows.widths c.args.p 0) x) (c.saturating_sub-room.ensures ∙ ap (λ (x : ℕ). get_or b.rows.widths c.args.q 0 - x) c.by.ensures))
     (omega arith) (omega arith) c.join.ensures
 
 pub returns-in-One : goal.returns-in-One
 returns-in-One c = λ _.
     let b = c.args.self.now in
-    carry_done b c.args.raise c.args.p c.args.q 1 c.min-n.result _ _ c.join-raised.new.dst (omega arith) (omega arith) (omega arith)
+    carry_done b c.args.raise c.args.p c.args.q 1 c.min-n.result _ _ c.join_raised.new.dst (omega arith) (omega arith) (omega arith)
     (ap raise_by c.in-One.is)
-    (c.min-n.ensures ∙ ap (λ (x : ℕ). min (get_or b.rows.widths c.args.p 0) x) (c.saturating-sub-room.ensures ∙ ap (λ (x : ℕ). get_or b.rows.widths c.args.q 0 - x) c.by.ensures))
-    (omega arith) (omega arith) c.join-raised.ensures
+    (c.min-n.ensures ∙ ap (λ (x : ℕ). min (get_or b.rows.widths c.args.p 0) x) (c.saturating_sub-room.ensures ∙ ap (λ (x : ℕ). get_or b.rows.widths c.args.q 0 - x) c.by.ensures))
+    (omega arith) (omega arith) c.join_raised.ensures

@@ -10,5 +10,5 @@ returns-then-p-ge65 c = λ _.
 pub returns : goal.returns
 returns c = λ _.
     let b = c.args.self.now in
-    look_row b.rows b.front c.args.p c.args.low c.args.high c.saturating-sub.result c.min-high.result c.any.result
-    (omega arith) c.saturating-sub.ensures c.min-high.ensures c.any.ensures
+    look_row b.rows b.front c.args.p c.args.low c.args.high c.saturating_sub.result c.min-high.result c.any.result
+    (omega arith) c.saturating_sub.ensures c.min-high.ensures c.any.ensures

@@ -1,12 +1,12 @@
-use Rattle.std.proofs.Common.{◌≡◌, ℕ, ◌+◌, ◌*◌, ◌/◌, ◌<◌, ◌≤◌, length, get_or, set, sym, ap, ◌∙◌, ⊎_elim, arith, get_or-set_other, get_or-set_same}
+use Rattle.std.proofs.Common.{◌≡◌, ℕ, ◌<◌, ◌≤◌, length, get_or, set, sym, ap, ◌∙◌, ⊎_elim, arith, get_or-set_other, get_or-set_same}
 use Rattle.std.proofs.lemmas.List.{length-set, get_or_past}
 use Rattle.std.proofs.lemmas.Bool.{cases_eq, cases_lt}
 use Rattle.widths.specs.Width.{width_of}
 use Rattle.widths.proofs.Rows.{base_room, sum_more, width_past}
 use Rattle.bit_bank.proofs.rows.Rows.of.Goals as goal
 
-pub overflow-add-used-in-loop-p : goal.overflow-add-used-in-loop-p
-overflow-add-used-in-loop-p c = omega (arith, base_room c.args.plan.now c.loop-p.p)
+pub overflow_add-used-in-loop-p : goal.overflow_add-used-in-loop-p
+overflow_add-used-in-loop-p c = omega (arith, base_room c.args.plan.now c.loop-p.p)
 
 pub loop-p-preserved : goal.loop-p-preserved
 loop-p-preserved c =
@@ -53,17 +53,16 @@ loop-p-preserved c =
 few : (c : goal.After-loop-p) → c.loop-p.used ≤ 127
 few c = omega (arith, base_room c.args.plan.now c.loop-p.p)
 
-pub overflow-cast-result : goal.overflow-cast-result
-overflow-cast-result c = omega (arith, few c)
+pub overflow_cast-result : goal.overflow_cast-result
+overflow_cast-result c = omega (arith, few c)
 
-pub invariant-of-result : goal.invariant-of-result
-invariant-of-result c = (
-  c.loop-p.invariant.0,
-  (
-    (λ p h. c.loop-p.invariant.4 p (omega arith)),
-    ((λ p q h l. c.loop-p.invariant.5 p q h (omega arith)), (few c, tt)),
-  ),
-)
+pub invariant_of-result : goal.invariant_of-result
+invariant_of-result c = record {
+  long = c.loop-p.invariant.0;
+  room = λ p h. c.loop-p.invariant.4 p (omega arith);
+  apart = λ p q h l. c.loop-p.invariant.5 p q h (omega arith);
+  few = few c;
+}
 
 pub returns : goal.returns
 returns c = λ p. ⊎_elim

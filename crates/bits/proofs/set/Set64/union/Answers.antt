@@ -4,8 +4,8 @@ use Rattle.bits.specs.Members.{member}
 use Rattle.bits.proofs.Laws.{bit-laws}
 use Rattle.bits.proofs.set.Set64.union.Goals as goal
 
-pub invariant-of-result : goal.invariant-of-result
-invariant-of-result c = search (rules, or_lt)
+pub invariant_of-result : goal.invariant_of-result
+invariant_of-result c = search (rules, or_lt)
 
 pub returns : goal.returns
 unfolding member

@@ -1,9 +1,8 @@
 -- A better mark is written, or there is none.
-use Rattle.std.proofs.Common.{◌≡◌, ℕ, ◌<◌, ◌≤◌, true, ◌⊎◌, get_or, refl, inl, inr, ⊎_elim, arith}
+use Rattle.std.proofs.Common.{◌≡◌, ◌<◌, ◌≤◌, true, ◌⊎◌, get_or, refl, inl, inr, ⊎_elim, arith}
 use Rattle.std.proofs.lemmas.Bool.{both_ways}
 use Rattle.distances.specs.Graphs.{Pair}
-use Rattle.distances.proofs.Sweeps.{swept_none}
-use Rattle.distances.proofs.Writes.{write_ground, write_behind, write_falls, still_there}
+use Rattle.distances.proofs.Writes.{write_ground, write_behind, write_falls}
 use Rattle.distances.proofs.graph.Graph.relax.Goals as goal
 
 pub returns-then-r-old : goal.returns-then-r-old

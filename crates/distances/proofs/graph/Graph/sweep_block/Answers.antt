@@ -18,11 +18,11 @@ loop-i-preserved c =
     let i = c.loop-i.i in
     let lo = c.args.lo in
     let e = c.args.end in
-    swept_more g c.args.area.now c.loop-i.area c.sweep-count-moved.new.area
+    swept_more g c.args.area.now c.loop-i.area c.sweep_count-moved.new.area
     (λ a b. (lo ≤ a) × (a < e) × (i < b)) (λ a b. (lo ≤ a) × (a < e) × (b ≡ i)) (λ a b. (lo ≤ a) × (a < e) × (i - 1 < b))
-    c.loop-i.moved c.sweep-count-moved.result
+    c.loop-i.moved c.sweep_count-moved.result
     (λ a b u d. ⊎_elim (λ (x : i < b). inl (u.0, u.1, x)) (λ (x : b ≤ i). inr (u.0, u.1, omega (arith, u.2))) (cases_lt i b))
-    c.loop-i.invariant c.sweep-count-moved.ensures
+    c.loop-i.invariant c.sweep_count-moved.ensures
 
 pub returns : goal.returns
 returns c =

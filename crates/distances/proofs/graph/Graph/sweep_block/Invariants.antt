@@ -1,5 +1,4 @@
 use Rattle.std.proofs.Common.{◌<◌, ◌≤◌}
-use Rattle.distances.specs.Graphs.{width_in}
 use Rattle.distances.specs.Search.{Swept}
 use Rattle.distances.proofs.graph.Graph.sweep_block.Given as goal
 

@@ -1,5 +1,5 @@
 -- The three links between two places, one after another.
-use Rattle.std.proofs.Common.{◌≡◌, ℕ, ◌<◌, ◌≤◌, true, not, eqb, sym, ap, ◌∙◌, arith}
+use Rattle.std.proofs.Common.{◌≡◌, ◌<◌, ◌≤◌, true, not, eqb, sym, ap, ◌∙◌, arith}
 use lib.Bits.{bit_and}
 use Rattle.std.proofs.lemmas.Bool.Decides.{nat_tests}
 use Rattle.tables.specs.Masks.{within, next, cross}
@@ -34,14 +34,14 @@ module _ (c : goal.After-through) where
   out_to e = elim c.if-mask-ne0-2.branch [
     | then-mask-ne0-2 w ↦
         let b = w.out-is in
-        let l = w.low-at.ensures in
+        let l = w.low_at.ensures in
         (sym (ap cross c.links-mask.ensures) ∙ bit_from_and c.links-mask.result 4 2 only_cross w.if-mask-ne0-2.true, grind (arith, nat_tests))
     | else-mask-ne0-2 w ↦ absurd (and_from_bit c.links-mask.result 4 2 only_cross (sym (test_bit c.links-mask.result 4 2 only_cross) ∙ sym w.out-is ∙ e) w.if-mask-ne0-2.false)
   ]
 
   out_of : cross (links_of c.args.self.now.table c.args.p c.args.q) ≡ true → low_of c.args.self.now.table c.args.p ≤ c.args.i → c.if-mask-ne0-2.out ≡ true
   out_of k h = elim c.if-mask-ne0-2.branch [
-    | then-mask-ne0-2 w ↦ let b = w.out-is in let l = w.low-at.ensures in grind (arith, nat_tests)
+    | then-mask-ne0-2 w ↦ let b = w.out-is in let l = w.low_at.ensures in grind (arith, nat_tests)
     | else-mask-ne0-2 w ↦ absurd (and_from_bit c.links-mask.result 4 2 only_cross (ap cross c.links-mask.ensures ∙ k) w.if-mask-ne0-2.false)
   ]
 

@@ -1,4 +1,4 @@
-use Rattle.std.proofs.Common.{ℕ, sym, ap, ◌∙◌, arith}
+use Rattle.std.proofs.Common.{ℕ, ap, ◌∙◌, arith}
 use Rattle.widths.specs.Width.{width_in}
 use Rattle.banks.specs.Pairs.{only, ◌∩◌}
 use Rattle.list_bank.specs.Means.{up_to}
@@ -15,7 +15,7 @@ pub returns : goal.returns
 returns c = λ _.
     let b = c.args.self.now in
     let p = c.args.p in
-    put_done b (only p c.args.i) (only p c.from.result ∩ up_to c.width-in-width.result) c.insert-up-to.result c.insert-up-to.new.self
-    (ap (λ (j : ℕ). only p j ∩ up_to c.width-in-width.result) c.from.ensures
-    ∙ same_bound (only p c.args.i) (width_in b.plan) p c.width-in-width.result c.width-in-width.ensures (only_away p c.args.i))
-    c.insert-up-to.ensures
+    put_done b (only p c.args.i) (only p c.from.result ∩ up_to c.width_in-width.result) c.insert_up_to.result c.insert_up_to.new.self
+    (ap (λ (j : ℕ). only p j ∩ up_to c.width_in-width.result) c.from.ensures
+    ∙ same_bound (only p c.args.i) (width_in b.plan) p c.width_in-width.result c.width_in-width.ensures (only_away p c.args.i))
+    c.insert_up_to.ensures

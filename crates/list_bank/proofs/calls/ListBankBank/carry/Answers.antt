@@ -1,4 +1,4 @@
-use Rattle.std.proofs.Common.{ℕ, Ok, sym, ap, ◌∙◌, ⊎_elim, arith}
+use Rattle.std.proofs.Common.{ℕ, Ok, ap, ◌∙◌, ⊎_elim, arith}
 use Rattle.widths.specs.Width.{width_in}
 use Rattle.banks.specs.Pairs.{moved, ◌∩◌}
 use Rattle.banks.specs.Raises.{raise_by}
@@ -21,9 +21,9 @@ pub returns : goal.returns
 returns c = λ _.
     let b = c.args.self.now in
     let F = pairs_of b.front in
-    let width = c.width-in-width.result in
-    put_done b (moved F c.args.p c.args.q (raise_by c.args.raise)) (moved F c.args.p c.args.q c.by.result ∩ up_to width) (Ok tt) c.in-ok-self.field-0
+    let width = c.width_in-width.result in
+    put_done b (moved F c.args.p c.args.q (raise_by c.args.raise)) (moved F c.args.p c.args.q c.by.result ∩ up_to width) (Ok tt) c.in_ok-self.field-0
     (ap (λ (n : ℕ). moved F c.args.p c.args.q n ∩ up_to width) c.by.ensures
-    ∙ same_bound (moved F c.args.p c.args.q (raise_by c.args.raise)) (width_in b.plan) c.args.q width c.width-in-width.ensures
+    ∙ same_bound (moved F c.args.p c.args.q (raise_by c.args.raise)) (width_in b.plan) c.args.q width c.width_in-width.ensures
     (moved_away F c.args.p c.args.q (raise_by c.args.raise)))
-    c.in-ok-self.ensures
+    c.in_ok-self.ensures

@@ -4,15 +4,15 @@ use Rattle.banks.specs.Pairs.{Pairs, only, ◌∪◌, ◌∩◌}
 use Rattle.list_bank.specs.Means.{pairs_of, up_to}
 use Rattle.list_bank.specs.Moves.{with_moved, moved_none, moved_here, moved_other, refused_more}
 use Rattle.list_bank.proofs.pairs.PairList.insert_moved.Goals as goal
-use Rattle.list_bank.proofs.pairs.PairList.insert_moved.Goals.{then-x-p+in-ok-insert-up-to, else-x-p}
+use Rattle.list_bank.proofs.pairs.PairList.insert_moved.Goals.{then-x-p+in_ok-insert_up_to, else-x-p}
 
 pub loop-k-init : goal.loop-k-init
 loop-k-init c = moved_none (pairs_of c.args.self) c.args.front.now.items c.args.p c.args.q c.args.by c.args.width
 
-pub returns-in-err-insert-up-to : goal.returns-in-err-insert-up-to
-returns-in-err-insert-up-to c =
-    let p = err_from_is_err_and c.from-residual.result c.from-residual.ensures.1 in
-    let e = c.in-err-insert-up-to.ensures in
+pub returns-in_err-insert_up_to : goal.returns-in_err-insert_up_to
+returns-in_err-insert_up_to c =
+    let p = err_from_is_err_and c.from_residual.result c.from_residual.ensures.1 in
+    let e = c.in_err-insert_up_to.ensures in
     rw (p.1, p.2) (
       e.0,
       refused_more (pairs_of c.args.self) c.args.front.now.items c.args.p c.args.q c.args.by c.args.width
@@ -25,9 +25,9 @@ loop-k-preserved c =
     let s = pairs_of c.args.self in
     let xs = c.args.front.now.items in
     elim c.if-x-p.branch [
-      | then-x-p+in-ok-insert-up-to w ↦
+      | then-x-p+in_ok-insert_up_to w ↦
           ap pairs_of w.next-is
-          ∙ w.in-ok-insert-up-to.ensures
+          ∙ w.in_ok-insert_up_to.ensures
           ∙ ap (λ (v : Pairs). v ∪ (only c.args.q (w.from.result + w.from-then-x-p.result) ∩ up_to c.args.width)) c.loop-k.invariant
           ∙ moved_here s xs c.args.p c.args.q c.args.by c.args.width c.loop-k.k (w.from.result + w.from-then-x-p.result)
           w.if-x-p.true (omega (arith, w.from.ensures, w.from-then-x-p.ensures))

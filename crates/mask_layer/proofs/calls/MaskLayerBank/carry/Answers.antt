@@ -15,7 +15,7 @@ returns-then-look g c = λ s.
     let m = g.B.Bank.means in
     let w = c.args.self.now in
     let q = c.args.q in
-    let nq : narrow w.plan q ≡ true = sym c.is-narrow.ensures ∙ c.if-is-narrow.true in
+    let nq : narrow w.plan q ≡ true = sym c.is_narrow.ensures ∙ c.if-is_narrow.true in
     carry_own m g.met.B.Bank.facts w s c.args.p q (raise_by c.args.raise) c.with-self.result nq
     (sym c.by.ensures ∙ c.if-by-eq0.true)
     (look_one ((masked m).front w) c.args.p 1 c.look.result (c.look.ensures s) ∙ c.if-look.true)
@@ -26,33 +26,33 @@ raised : (F : ℕ → Bool) (raise : Raise) → F 0 ≡ false → (raise_by rais
 raised F Nothing z one = one refl
 raised F One z one = z
 
-pub returns-then-is-narrow : goal.returns-then-is-narrow
-returns-then-is-narrow g c = λ s.
+pub returns-then-is_narrow : goal.returns-then-is_narrow
+returns-then-is_narrow g c = λ s.
     let m = g.B.Bank.means in
     let w = c.args.self.now in
-    carry_none m g.met.B.Bank.facts w s c.args.p c.args.q (raise_by c.args.raise) (sym c.is-narrow.ensures ∙ c.if-is-narrow.true)
+    carry_none m g.met.B.Bank.facts w s c.args.p c.args.q (raise_by c.args.raise) (sym c.is_narrow.ensures ∙ c.if-is_narrow.true)
     (raised ((masked m).front w c.args.p) c.args.raise (no_zero m g.met.B.Bank.facts w s c.args.p)
     (λ e. elim c.else-by-eq0.branch [
       | else-by-eq0-via-then-by-eq0+else-look v ↦ look_one ((masked m).front w) c.args.p 1 v.look.result (v.look.ensures s) ∙ v.if-look.false
       | else-by-eq0-via-else-by-eq0 v ↦ absurd (v.if-by-eq0.false (c.by.ensures ∙ e))
     ]))
 
-pub returns-then-not-is-narrow : goal.returns-then-not-is-narrow
-returns-then-not-is-narrow g c = λ s.
+pub returns-then-not-is_narrow : goal.returns-then-not-is_narrow
+returns-then-not-is_narrow g c = λ s.
     let w = c.args.self.now in
     carry_below g.B.Bank.means g.met.B.Bank.facts w s c.args.p c.args.q (raise_by c.args.raise) c.carry.result c.carry.new.self
-    (sym c.is-narrow-2.ensures ∙ c.if-not-is-narrow.true) (sym c.is-narrow.ensures ∙ c.if-is-narrow.false) (c.carry.ensures s.below)
+    (sym c.is_narrow-2.ensures ∙ c.if-not-is_narrow.true) (sym c.is_narrow.ensures ∙ c.if-is_narrow.false) (c.carry.ensures s.below)
 
 pub returns-then-has : goal.returns-then-has
 returns-then-has g c = λ s.
     let m = g.B.Bank.means in
     let w = c.args.self.now in
     carry_one m g.met.B.Bank.facts w s c.args.p c.args.q (raise_by c.args.raise) c.add.result c.add.new.self
-    (sym c.is-narrow-2.ensures ∙ c.if-not-is-narrow.false) (sym c.is-narrow.ensures ∙ c.if-is-narrow.false)
+    (sym c.is_narrow-2.ensures ∙ c.if-not-is_narrow.false) (sym c.is_narrow.ensures ∙ c.if-is_narrow.false)
     (sym c.has.ensures ∙ c.if-has.true)
     (subst (λ (n : ℕ). Put m (only c.args.q (1 + n)) w.below c.add.result c.add.new.self) c.by-then-has.ensures (c.add.ensures s.below))
 
 pub returns : goal.returns
 returns g c = λ s.
     carry_empty g.B.Bank.means g.met.B.Bank.facts c.args.self.now s c.args.p c.args.q (raise_by c.args.raise)
-    (sym c.is-narrow-2.ensures ∙ c.if-not-is-narrow.false) (sym c.has.ensures ∙ c.if-has.false)
+    (sym c.is_narrow-2.ensures ∙ c.if-not-is_narrow.false) (sym c.has.ensures ∙ c.if-has.false)

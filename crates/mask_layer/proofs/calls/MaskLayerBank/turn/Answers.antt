@@ -1,4 +1,4 @@
-use Rattle.std.proofs.Common.{sym, ap, ◌∙◌}
+use Rattle.std.proofs.Common.{ap, ◌∙◌}
 use Rattle.mask_layer.specs.Places.{placed}
 use Rattle.mask_layer.specs.Layers.{turned}
 use Rattle.mask_layer.proofs.calls.MaskLayerBank.turn.Goals as goal

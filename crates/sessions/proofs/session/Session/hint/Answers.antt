@@ -1,4 +1,4 @@
-use Rattle.std.proofs.Common.{◌≡◌, ℕ, Ok, Err, Result, sym, refl, ap, ◌∙◌, subst, arith}
+use Rattle.std.proofs.Common.{◌≡◌, ℕ, Err, Result, sym, refl, ap, ◌∙◌, subst, arith}
 use Rattle.std.proofs.lemmas.Result.{err_from_is_err_and}
 use Rattle.std.proofs.lemmas.Bool.{cond-true, lt-ltb}
 use Rattle.refusals.specs.declared.Refusal.{Refusal}
@@ -11,22 +11,22 @@ use Rattle.sessions.proofs.session.Session.hint.Goals as goal
 same_refusal : {X Y : Type 0} (a b : Refusal) → ◌≡◌ {A = Result X Refusal} (Err a) (Err b) → ◌≡◌ {A = Result Y Refusal} (Err a) (Err b)
 same_refusal a b is = let e : a ≡ b = cc in ap (λ v. Err v) e
 
-pub returns-in-err-code : goal.returns-in-err-code
-returns-in-err-code g c =
-    let p = err_from_is_err_and c.from-residual.result c.from-residual.ensures.1 in
-    let told = c.in-err-code.ensures in
+pub returns-in_err-code : goal.returns-in_err-code
+returns-in_err-code g c =
+    let p = err_from_is_err_and c.from_residual.result c.from_residual.ensures.1 in
+    let told = c.in_err-code.ensures in
     rw (p.1, p.2) (record {
       stays = refl;
       area = told.area;
-      short = λ less. same_refusal c.in-err-code.field-0.0 Work (told.short less);
+      short = λ less. same_refusal c.in_err-code.field-0.0 Work (told.short less);
       full = λ full text row on.
           refusal_told g.K.Kind g.B.Bank g.met.K.Kind.alphabet g.met.K.Kind.named text row c.args.self.now on
-          c.in-err-code.field-0.0 (told.answer full on.ready);
+          c.in_err-code.field-0.0 (told.answer full on.ready);
     })
 
 pub returns : goal.returns
 returns g c =
-    let told = c.in-ok-code.ensures in
+    let told = c.in_ok-code.ensures in
     let k = g.K.Kind in
     record {
       stays = refl;
@@ -35,7 +35,7 @@ returns g c =
       full = λ full text row on.
           let (below, hint) =
           code_told k g.B.Bank g.met.K.Kind.alphabet g.met.K.Kind.named text row c.args.self.now on
-          c.in-ok-code.code (told.answer full on.ready) in
-          let is = c.symbol-of.ensures ∙ cond-true _ _ _ (lt-ltb c.in-ok-code.code k.codes below) in
+          c.in_ok-code.code (told.answer full on.ready) in
+          let is = c.symbol_of.ensures ∙ cond-true _ _ _ (lt-ltb c.in_ok-code.code k.codes below) in
           subst (λ r. HintTold k text row r) (sym is) hint;
     }

@@ -1,6 +1,6 @@
-use Rattle.std.proofs.Common.{List, [], ◌∷◌, ◌++◌, take, Err, sym, ◌∙◌, subst, arith}
+use Rattle.std.proofs.Common.{take, Err, ◌∙◌, subst, arith}
 use Rattle.std.proofs.lemmas.List.{take_all, get_or_default}
-use Rattle.sessions.specs.Calls.{Call, Laid, laid_all}
+use Rattle.sessions.specs.Calls.{Laid, laid_all}
 use Rattle.sessions.specs.Sessions.{Did}
 use Rattle.sessions.specs.Runs.{Run, done}
 use Rattle.sessions.proofs.RowsLaid.{run_more, laid_more}
@@ -12,7 +12,7 @@ loop-i-init g c = done
 pub loop-i-preserved : goal.loop-i-preserved
 loop-i-preserved g c =
     laid_more g.K.Kind g.B.Bank c.args.row.now c.loop-i.i c.index-row-i.result _ _ _ c.loop-i-test.true c.index-row-i.is
-    c.loop-i.invariant c.in-default.ensures
+    c.loop-i.invariant c.in_default.ensures
 
 pub returns-in-Err : goal.returns-in-Err
 returns-in-Err g c =

@@ -5,9 +5,9 @@ use Rattle.sessions.proofs.session.Session.need.Goals as goal
 pub returns : goal.returns
 returns g c = record {
   stays = refl;
-  area = c.need-of.ensures.area;
-  short = c.need-of.ensures.short;
+  area = c.need_of.ensures.area;
+  short = c.need_of.ensures.short;
   full = λ full text row on.
       need_told g.K.Kind g.B.Bank g.met.K.Kind.alphabet g.met.K.Kind.named text row c.args.self.now on
-      c.need-of.result (c.need-of.ensures.answer full on.ready);
+      c.need_of.result (c.need_of.ensures.answer full on.ready);
 }

@@ -1,4 +1,4 @@
-use Rattle.std.proofs.Common.{◌≡◌, ℕ, ◌+◌, ◌-◌, [], ◌∷◌, get_or, rules}
+use Rattle.std.proofs.Common.{◌≡◌, ◌+◌, ◌-◌, [], ◌∷◌, get_or, rules}
 use Rattle.symbols.specs.Tiles.{colour_byte}
 use Rattle.symbols.proofs.ShortLists.{list_of_two}
 use Rattle.symbols.proofs.tiles.TilesKind.unspell.Goals as goal

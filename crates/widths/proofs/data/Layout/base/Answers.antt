@@ -1,5 +1,5 @@
-use Rattle.std.proofs.Common.{◌≡◌, ◌+◌, ◌≤◌, get_or, arith}
-use Rattle.widths.specs.Width.{base_of, widths_of}
+use Rattle.std.proofs.Common.{arith}
+use Rattle.widths.specs.Width.{widths_of}
 use Rattle.widths.proofs.Rows.{base_room, base_apart}
 use Rattle.widths.proofs.data.Layout.base.Goals as goal
 

@@ -1,10 +1,10 @@
-use Rattle.std.proofs.Common.{◌≡◌, ℕ, ◌+◌, ◌<◌, ◌≤◌, length, get_or, take, set, sum, sym, ap, ◌∙◌, arith, get_or-set_other, get_or-set_same, below_more}
+use Rattle.std.proofs.Common.{ℕ, ◌<◌, length, ◌∙◌, arith, get_or-set_other, get_or-set_same, below_more}
 use Rattle.std.proofs.lemmas.List.{length-set}
 use Rattle.widths.proofs.Rows.{base_room, sum_more}
 use Rattle.widths.proofs.data.Layout.of.Goals as goal
 
-pub overflow-add-next : goal.overflow-add-next
-overflow-add-next c = omega (arith, base_room c.args.widths.now c.loop-p.p)
+pub overflow_add-next : goal.overflow_add-next
+overflow_add-next c = omega (arith, base_room c.args.widths.now c.loop-p.p)
 
 pub loop-p-preserved : goal.loop-p-preserved
 loop-p-preserved c =
@@ -19,5 +19,5 @@ loop-p-preserved c =
           (get_or-set_same c.loop-p.bases c.loop-p.p c.loop-p.next 0 room ∙ c.loop-p.invariant.0),
     )
 
-pub invariant-of-result : goal.invariant-of-result
-invariant-of-result c = (c.loop-p.invariant.1, ((λ p h. c.loop-p.invariant.2 p (omega arith)), tt))
+pub invariant_of-result : goal.invariant_of-result
+invariant_of-result c = record { long = c.loop-p.invariant.1; each = λ p h. c.loop-p.invariant.2 p (omega arith) }

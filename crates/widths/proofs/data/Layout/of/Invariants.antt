@@ -1,4 +1,4 @@
-use Rattle.std.proofs.Common.{◌≡◌, ℕ, ◌*◌, ◌<◌, ◌≤◌, length, get_or, take, sum}
+use Rattle.std.proofs.Common.{◌≡◌, ℕ, ◌<◌, length, get_or, take, sum}
 use Rattle.widths.proofs.data.Layout.of.Given as goal
 
 -- `next` is the sum of the widths so far, and each base so far is the sum of the widths before it

@@ -1,4 +1,4 @@
-use Rattle.std.proofs.Common.{◌≡◌, ℕ, ◌<◌, ◌≤◌, length, get_or, take, sum, ap, arith, below_more}
+use Rattle.std.proofs.Common.{◌≡◌, take, sum, ap, arith, below_more}
 use Rattle.std.proofs.lemmas.List.{take_all}
 use Rattle.std.proofs.lemmas.List.Sums.{sum_by_more}
 use Rattle.widths.proofs.data.Widths.of.Goals as goal
@@ -13,7 +13,7 @@ returns-then-total-gt4096 c = λ s.
     let all : sum (take c.loop-p.p c.args.given.now) ≡ sum c.args.given.now = ap sum (take_all c.loop-p.p c.args.given.now (omega arith)) in
     omega arith
 
-pub invariant-of-result : goal.invariant-of-result
-invariant-of-result c =
+pub invariant_of-result : goal.invariant_of-result
+invariant_of-result c =
     let all : sum (take c.loop-p.p c.args.given.now) ≡ sum c.args.given.now = ap sum (take_all c.loop-p.p c.args.given.now (omega arith)) in
-    (omega arith, (omega arith, ((λ p h. c.loop-p.invariant.2 p (omega arith)), (omega arith, tt))))
+    record { long = omega arith; start = omega arith; each = λ p h. c.loop-p.invariant.2 p (omega arith); total = omega arith }
