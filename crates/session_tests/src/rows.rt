@@ -296,14 +296,14 @@ fn is_short(case: Case) -> bool {
 // Every case over one bank.
 fn letters_over<B: Bank>(rt: &impl Abort, heap: Global) -> Result<(), Fail> {
     for case in LETTERS {
-        comes_to::<Letters, B>(rt, heap, case, is_short(case)).note("letters")?;
+        comes_to::<Letters, B>(rt, heap, case, is_short(case))?;
     }
     Ok(())
 }
 
 fn tiles_over<B: Bank>(rt: &impl Abort, heap: Global) -> Result<(), Fail> {
     for case in TILES {
-        comes_to::<Tiles, B>(rt, heap, case, true).note("tiles")?;
+        comes_to::<Tiles, B>(rt, heap, case, true)?;
     }
     Ok(())
 }

@@ -3,4 +3,4 @@ use Rattle.std.proofs.Common.{◌≡◌, length}
 use Rattle.syntax_tests.proofs.tests.deep_groups.Given as goal
 
 abbrev pub invariant-loop-i : goal.invariant-loop-i
-invariant-loop-i l = length l.text ≡ 501
+invariant-loop-i g l = length l.text ≡ 501
