@@ -1,7 +1,7 @@
 -- The worked examples, by computing one test over the table.
 use Rattle.std.proofs.Common.{◌≡◌, ℕ, zero, suc, Bool, true, false, ◌&&◌, ◌||◌, T, eqb, ◌↔◌, List, [], ◌∷◌, refl, subst, inl, inr}
 use mathlib.Core.Bool.{false≢true}
-use Rattle.std.specs.List.{AllByRecursion as All}
+use Rattle.std.specs.List.{AllByRecursion}
 use Rattle.std.proofs.lemmas.Bool.{and_parts, or_cases, eqb-true}
 use Rattle.automata.specs.Language.{Tree, empty, unit, cat, alt, star, plus, opt, rep, WellFormed, NoEmptySet}
 use Rattle.automata.specs.Step.{Stands}
@@ -84,7 +84,7 @@ tableb : List Example → Bool
 tableb [] = true
 tableb (x ∷ xs) = exampleb x && tableb xs
 
-each_holds : (xs : List Example) → tableb xs ≡ true → All (λ x. Means x.pattern x.row x.said) xs
+each_holds : (xs : List Example) → tableb xs ≡ true → AllByRecursion (λ x. Means x.pattern x.row x.said) xs
 unfolding tableb exampleb
 each_holds [] h = tt
 each_holds (x ∷ xs) h =

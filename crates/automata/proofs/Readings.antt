@@ -1,6 +1,6 @@
 -- A row is in the language exactly when a row of places reads it; so firsts and lasts are the places that take first and last symbols.
 use Rattle.std.proofs.Common.{◌≡◌, ℕ, zero, suc, ◌+◌, Bool, List, [], ◌∷◌, ◌++◌, sym, refl, ap, subst, inl, inr, arith}
-use Rattle.std.specs.List.{AllZip, AllByRecursion as All}
+use Rattle.std.specs.List.{AllZip, AllByRecursion}
 use Rattle.std.proofs.ByRecursion.{All-append, All-weaker}
 use Rattle.automata.specs.Language.{Tree, empty, unit, cat, alt, star, plus, opt, rep, Power, In, NoEmptySet}
 use Rattle.automata.specs.Places.{size, First, Last, Holds}
@@ -15,7 +15,7 @@ use Rattle.automata.proofs.Completions.{symbol_at}
 
 each_like :
     (R R' : ℕ → ℕ → Type 0) (P : ℕ → Type 0) → ((p s : ℕ) → P p → R p s → R' p s)
-    → (ps w : List ℕ) → All P ps → AllZip R ps w → AllZip R' ps w
+    → (ps w : List ℕ) → AllByRecursion P ps → AllZip R ps w → AllZip R' ps w
 each_like R R' P like [] [] r h = tt
 each_like R R' P like [] (s ∷ w) r h = h
 each_like R R' P like (p ∷ ps) [] r h = h
@@ -40,21 +40,21 @@ each_none R (s ∷ w) h = absurd h
 
 -- ---- the places of a row of places are places of the part
 
-power_all : (P : ℕ → Type 0) (L : List ℕ → Type 0) → ((ps : List ℕ) → L ps → All P ps) → (n : ℕ) (ps : List ℕ) → Power L n ps → All P ps
-power_all P L each zero ps h = subst (All P) (sym h) tt
-power_all P L each (suc n) ps (x, y, e, h, k) = subst (All P) (sym e) (All-append P x y (each x h) (power_all P L each n y k))
+power_all : (P : ℕ → Type 0) (L : List ℕ → Type 0) → ((ps : List ℕ) → L ps → AllByRecursion P ps) → (n : ℕ) (ps : List ℕ) → Power L n ps → AllByRecursion P ps
+power_all P L each zero ps h = subst (AllByRecursion P) (sym h) tt
+power_all P L each (suc n) ps (x, y, e, h, k) = subst (AllByRecursion P) (sym e) (All-append P x y (each x h) (power_all P L each n y k))
 
-all_left : (a b : Tree) (o : ℕ) (ps : List ℕ) → All (Range a o) ps → All (Range (alt a b) o) ps
+all_left : (a b : Tree) (o : ℕ) (ps : List ℕ) → AllByRecursion (Range a o) ps → AllByRecursion (Range (alt a b) o) ps
 all_left a b o ps h = All-weaker (Range a o) (Range (alt a b) o) (range_left a b o) ps h
 
-all_right : (a b : Tree) (o : ℕ) (ps : List ℕ) → All (Range b (o + size a)) ps → All (Range (alt a b) o) ps
+all_right : (a b : Tree) (o : ℕ) (ps : List ℕ) → AllByRecursion (Range b (o + size a)) ps → AllByRecursion (Range (alt a b) o) ps
 all_right a b o ps h = All-weaker (Range b (o + size a)) (Range (alt a b) o) (range_right a b o) ps h
 
-pub row_range : (e : Tree) (o : ℕ) (ps : List ℕ) → PlaceRow e o ps → All (Range e o) ps
-row_range empty o ps h = subst (All (Range empty o)) (sym h) tt
-row_range (unit S) o ps h = subst (All (Range (unit S) o)) (sym h) ((omega arith, omega arith), tt)
+pub row_range : (e : Tree) (o : ℕ) (ps : List ℕ) → PlaceRow e o ps → AllByRecursion (Range e o) ps
+row_range empty o ps h = subst (AllByRecursion (Range empty o)) (sym h) tt
+row_range (unit S) o ps h = subst (AllByRecursion (Range (unit S) o)) (sym h) ((omega arith, omega arith), tt)
 row_range (cat a b) o ps (u, v, e, x, y) =
-    subst (All (Range (cat a b) o)) (sym e)
+    subst (AllByRecursion (Range (cat a b) o)) (sym e)
     (All-append (Range (cat a b) o) u v (all_left a b o u (row_range a o u x)) (all_right a b o v (row_range b (o + size a) v y)))
 row_range (alt a b) o ps (inl h) = all_left a b o ps (row_range a o ps h)
 row_range (alt a b) o ps (inr h) = all_right a b o ps (row_range b (o + size a) ps h)
@@ -148,7 +148,7 @@ rows_by_places e o w = (
 -- ---- firsts and lasts
 
 -- Where no set is empty, every row of places reads some row.
-some_symbols : (e : Tree) (o : ℕ) → NoEmptySet e → (ps : List ℕ) → All (Range e o) ps → (w : List ℕ) × AllZip (Holds e o) ps w
+some_symbols : (e : Tree) (o : ℕ) → NoEmptySet e → (ps : List ℕ) → AllByRecursion (Range e o) ps → (w : List ℕ) × AllZip (Holds e o) ps w
 some_symbols e o ne [] r = ([], tt)
 some_symbols e o ne (p ∷ ps) r =
     let (s, h) = symbol_at e o p ne r.0 in

@@ -1,6 +1,6 @@
 -- Worked examples: patterns as trees, rows, and what holds of each, in one table.
 use Rattle.std.specs.Prelude.{◌≡◌, ℕ, zero, suc, ◌&&◌, ◌||◌, ltb, ◌⊎◌, ◌↔◌, List, [], ◌∷◌, ◌==◌, nat_eq, nat_le, nat_lt}
-use Rattle.std.specs.List.{AllByRecursion as All}
+use Rattle.std.specs.List.{AllByRecursion}
 use Rattle.automata.specs.Language.{Tree, unit, cat, alt, star, opt, rep, In}
 use Rattle.automata.specs.Step.{Stands}
 use Rattle.automata.specs.Completion.{Need, Stuck}
@@ -92,4 +92,4 @@ table =
 
 -- What every example of the table says holds.
 abbrev pub ExamplesHold : Type 0
-ExamplesHold = All (λ x. Means x.pattern x.row x.said) table
+ExamplesHold = AllByRecursion (λ x. Means x.pattern x.row x.said) table

@@ -1,11 +1,11 @@
 -- A text parted where its first line ends.
 use Rattle.std.proofs.Common.{◌≡◌, ℕ, ◌+◌, ◌-◌, ◌<◌, ◌≤◌, min, List, ◌∷◌, ◌++◌, length, take, drop, sym, refl, ap, ◌∙◌, subst, inl, inr, arith}
-use Rattle.std.specs.List.{AllByRecursion as All}
+use Rattle.std.specs.List.{AllByRecursion}
 use Rattle.std.proofs.lemmas.List.{length-take, take-append-drop, take_all, drop_all, drop_more, take_rest, get_or-take}
 use Rattle.std.proofs.ByRecursion.{All-from_get_or}
 use Rattle.input.specs.Lines.{LineEnd, FirstLine}
 
-one_line : (text : List ℕ) (n : ℕ) → LineEnd text n → All (λ b. b ≡ 10 → ⊥) (take n text)
+one_line : (text : List ℕ) (n : ℕ) → LineEnd text n → AllByRecursion (λ b. b ≡ 10 → ⊥) (take n text)
 one_line text n h =
     All-from_get_or (λ b. b ≡ 10 → ⊥) (take n text) 0
     (λ i l e.
@@ -27,6 +27,6 @@ splits_at text n l h =
 pub splits_none : (text : List ℕ) (n : ℕ) → length text ≤ n → LineEnd text n → FirstLine text text (take (length text - n) (drop n text))
 splits_none text n l h =
     record {
-      one = subst (All (λ b. b ≡ 10 → ⊥)) (take_all n text l) (one_line text n h);
+      one = subst (AllByRecursion (λ b. b ≡ 10 → ⊥)) (take_all n text l) (one_line text n h);
       splits = inr (refl, take_rest text n ∙ drop_all n text l);
     }

@@ -1,6 +1,6 @@
 -- Rows of symbols belong to the language of an accepted text, have needs and hints, just as their codes do in its tree.
 use Rattle.std.proofs.Common.{◌≡◌, ℕ, suc, ◌<◌, Bool, true, false, cond, eqb, ◌↔◌, List, [], ◌∷◌, ◌++◌, map, sym, refl, ap, ◌∙◌, subst}
-use Rattle.std.specs.List.{AllByRecursion as All}
+use Rattle.std.specs.List.{AllByRecursion}
 use Rattle.std.proofs.ByRecursion.{All-append, All-push}
 use Rattle.std.proofs.lemmas.List.{map-append, map_push, length-map}
 use Rattle.automata.specs.Language.{Tree, In}
@@ -34,11 +34,11 @@ module _ {K S : Type 0} (k : Ghosts K S)
   codes_are = alphabet_codes (eqb k.unit_length 1) ∙ sym alphabet
 
   -- every code of a row of the language is one of the kind
-  in_below : (w : List ℕ) → In e w → All (λ c. c < k.codes) w
-  in_below w x = subst (λ n. All (λ c. c < n) w) codes_are (row_below (grammar.codes_of (unit_of (alphabet_of k))) e accepted.codes w x)
+  in_below : (w : List ℕ) → In e w → AllByRecursion (λ c. c < k.codes) w
+  in_below w x = subst (λ n. AllByRecursion (λ c. c < n) w) codes_are (row_below (grammar.codes_of (unit_of (alphabet_of k))) e accepted.codes w x)
 
   -- the symbols of codes
-  symbols_of : (v : List ℕ) → All (λ c. c < k.codes) v → AllSymbols k (map k.symbol v) × (codes_of k (map k.symbol v) ≡ v)
+  symbols_of : (v : List ℕ) → AllByRecursion (λ c. c < k.codes) v → AllSymbols k (map k.symbol v) × (codes_of k (map k.symbol v) ≡ v)
   symbols_of [] h = (tt, refl)
   symbols_of (c ∷ v) (h, t) =
       let (valid, is) = named c h in

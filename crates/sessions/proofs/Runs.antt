@@ -1,6 +1,6 @@
 -- Whatever list of calls was made, the answers are right.
 use Rattle.std.proofs.Common.{◌≡◌, ℕ, suc, ◌+◌, ◌-◌, true, ◌⊎◌, List, [], ◌∷◌, ◌++◌, Ok, Err, Result, sym, refl, ap, subst, inl, inr, arith}
-use Rattle.std.specs.List.{AllByRecursion as All}
+use Rattle.std.specs.List.{AllByRecursion}
 use Rattle.refusals.specs.declared.Refusal.{Refusal}
 use Rattle.refusals.specs.declared.Refusal.TheVariants.{Full, Complete}
 use Rattle.automata.proofs.Completions.{least_unique}
@@ -37,7 +37,7 @@ module _ {K S : Type 0} (k : KindGhosts K S) (text : List ℕ) where
   hint_valid : (row : List S) (x : S) → IsHint k text row x → k.valid x ≡ true
   hint_valid row x (n, need, ((v, long, (valid, h)), least)) = last_valid row x v valid
     where
-      last_valid : (r : List S) (y : S) (u : List S) → All (λ z. k.valid z ≡ true) ((r ++ (y ∷ [])) ++ u) → k.valid y ≡ true
+      last_valid : (r : List S) (y : S) (u : List S) → AllByRecursion (λ z. k.valid z ≡ true) ((r ++ (y ∷ [])) ++ u) → k.valid y ≡ true
       last_valid [] y u h = h.0
       last_valid (z ∷ r) y u h = last_valid r y u h.1
 

@@ -1,6 +1,6 @@
 -- Rows of symbols of any kind, and the bytes that spell them.
 use Rattle.std.specs.Prelude.{◌≡◌, ℕ, ◌<◌, true, false, ◌⊎◌, List, ◌++◌, map, length, take, ◌≢◌, slice_index_or}
-use Rattle.std.specs.List.{flat_map, AllByRecursion as All}
+use Rattle.std.specs.List.{flat_map, AllByRecursion}
 use Rattle.refusals.specs.declared.Refusal.TheVariants.{Symbol, Memory}
 use Rattle.symbols.specs.declared.kind.Kind.{Ghosts}
 use Rattle.symbol_rows.specs.declared.row.RowRefusal.{RowRefusal}
@@ -12,7 +12,7 @@ module _ {K S : Type 0} (k : Ghosts K S) where
 
   -- Every value of the row is a symbol.
   abbrev pub AllSymbols : List S → Type 0
-  AllSymbols row = All (λ s. k.valid s ≡ true) row
+  AllSymbols row = AllByRecursion (λ s. k.valid s ≡ true) row
 
   -- The units of the row's symbols, one after another.
   abbrev pub spelling : List S → List ℕ

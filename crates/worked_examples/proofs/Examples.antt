@@ -1,7 +1,7 @@
 -- The worked examples: rows by computing a test on the tree of each text, refusals one by one.
 use Rattle.std.proofs.Common.{◌≡◌, ℕ, Bool, true, false, ◌&&◌, eqb, ◌↔◌, List, [], ◌∷◌, codes, refl, subst}
 use mathlib.Core.Bool.{false≢true}
-use Rattle.std.specs.List.{AllByRecursion as All}
+use Rattle.std.specs.List.{AllByRecursion}
 use Rattle.std.proofs.lemmas.Bool.{and_parts, eqb-true}
 use Rattle.automata.specs.Language.{Tree}
 use Rattle.automata.specs.Step.{Stands}
@@ -65,7 +65,7 @@ shown_holds a s (needs w n) (t, h, k) = (t, h, need_by_test (tree_of t) h.formed
 shown_holds a s (stuck w) (t, h, k) = (t, h, stuck_by_test (tree_of t) h.formed h.spelled w (same (front_pairs (tree_of t) w) [] k))
 shown_holds a s (refused n p) h = h
 
-all_hold : (xs : List Example) → All (λ x. Shown x.alphabet x.text x.said) xs → All (λ x. Means x.alphabet x.text x.said) xs
+all_hold : (xs : List Example) → AllByRecursion (λ x. Shown x.alphabet x.text x.said) xs → AllByRecursion (λ x. Means x.alphabet x.text x.said) xs
 all_hold [] h = tt
 all_hold (x ∷ xs) h = (shown_holds x.alphabet x.text x.said h.0, all_hold xs h.1)
 

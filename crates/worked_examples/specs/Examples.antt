@@ -1,7 +1,7 @@
 -- Worked examples: texts of patterns, and what holds of each, in one table.
 use Rattle.std.specs.Prelude.{◌≡◌, ℕ, ◌+◌, ◌-◌, ◌*◌, ◌↔◌, List, [], ◌∷◌, Some, codes}
 use Prim.Native.String.{String}
-use Rattle.std.specs.List.{AllByRecursion as All}
+use Rattle.std.specs.List.{AllByRecursion}
 use Rattle.automata.specs.Language.{Tree}
 use Rattle.automata.specs.Step.{Stands}
 use Rattle.automata.specs.Completion.{Need, Stuck}
@@ -100,4 +100,4 @@ table =
 
 -- What every example of the table says holds.
 abbrev pub ExamplesHold : Type 0
-ExamplesHold = All (λ x. Means x.alphabet x.text x.said) table
+ExamplesHold = AllByRecursion (λ x. Means x.alphabet x.text x.said) table
