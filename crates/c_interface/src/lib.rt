@@ -1,4 +1,4 @@
-//! The engine for programs in C, as a static library: `rt staticlib c_interface`.
+//! The engine for programs in C, as a static library: `rt lib` in this folder makes `out/libc_interface.a`.
 //!
 //! A slice passes as a pointer and then a length; the heap passes as nothing. `jothwila_fits` tells after each letter of a row whether the row so far
 //! fits a pattern, and `jothwila_need` how many letters the row lacks. `specs/Told.antt` says what they write and answer.
