@@ -1,8 +1,8 @@
 #!/usr/bin/env python3
 """Applies each edit of .ci/compile-errors to a copy of the sources, and demands the compile error that the edit names.
 
-An edit has lines 'crate:', 'file:', 'old:' (standing once in the file), 'new:' and 'error:'. The compiler must refuse the
-edited crate with just that error, and no other. Only the front end runs here: nothing is proved.
+An edit has lines 'crate:', 'file:', 'old:' (standing once in the file), 'new:' and 'error:'. A program that reaches the edited
+crate is then tried, which proves nothing: the compiler must refuse it with just that error, and no other.
 """
 import pathlib
 import shutil
@@ -11,7 +11,6 @@ import sys
 import tempfile
 
 TOP = pathlib.Path(__file__).resolve().parent.parent
-KIT = pathlib.Path(subprocess.check_output(["rt", "doc"], text=True).strip()).parent.parent
 
 
 def dependencies():
@@ -21,28 +20,21 @@ def dependencies():
         line = line.split("#")[0].strip()
         if line:
             name, rest = line.split(":")
-            deps[name.strip()] = rest.split()
+            deps[name.split()[0]] = rest.split()
     return deps
 
 
-def reached(deps, name, seen):
-    """The crates that a crate reaches, those below first."""
-    for d in deps[name]:
-        if d not in seen:
-            reached(deps, d, seen)
-            seen.append(d)
+def reached(deps, name):
+    """The crates that a crate reaches."""
+    seen = set(deps.get(name, ()))
+    for d in deps.get(name, ()):
+        seen |= reached(deps, d)
     return seen
 
 
-def library_words(deps, name, crates):
-    """The libraries of the kit and of the repository, each passed as source."""
-    words = []
-    for line in (KIT / "libs.txt").read_text().splitlines():
-        lib, used = line.split(":")
-        words += ["--lib", f"{lib}:{','.join(used.split())}={KIT}/{lib}/src/lib.rt"]
-    for lib in reached(deps, name, []):
-        words += ["--lib", f"{lib}={crates}/{lib}/src/lib.rt"]
-    return words
+def program_over(deps, crate):
+    """The first program that reaches the crate."""
+    return next(p for p in deps if (TOP / "crates" / p / "src" / "main.rt").exists() and crate in reached(deps, p))
 
 
 def read_edit(path):
@@ -58,16 +50,16 @@ def read_edit(path):
 def errors(deps, edit):
     """What the compiler says of the edited crate."""
     with tempfile.TemporaryDirectory() as temp:
-        crates = pathlib.Path(temp) / "crates"
-        shutil.copytree(TOP / "crates", crates)
-        source = crates / edit["crate"] / edit["file"]
+        copy = pathlib.Path(temp)
+        shutil.copy(TOP / "crates.txt", copy)
+        shutil.copytree(TOP / "crates", copy / "crates", ignore=shutil.ignore_patterns("out"))
+        source = copy / "crates" / edit["crate"] / edit["file"]
         text = source.read_text()
         if text.count(edit["old"]) != 1:
             return [f"the old text does not stand once in {edit['file']}"]
         source.write_text(text.replace(edit["old"], edit["new"]))
-        command = [str(KIT / "bin" / "rattle"), "check", "--crate-name", edit["crate"], "--antt-project", str(KIT / "logic" / "antt-project.json")]
-        command += [str(crates / edit["crate"] / "src" / "lib.rt")] + library_words(deps, edit["crate"], crates)
-        said = subprocess.run(command, text=True, capture_output=True)
+        program = copy / "crates" / program_over(deps, edit["crate"])
+        said = subprocess.run(["rt", "try"], cwd=program, text=True, capture_output=True, stdin=subprocess.DEVNULL)
         lines = (said.stdout + said.stderr).splitlines()
         return [line for line in lines if "error" in line] or [f"no error (status {said.returncode})"]
 

@@ -4,7 +4,7 @@
 //! `row_codes` to the codes; each refuses at the first unit or value that is no symbol, and tells how many symbols stand before it.
 //! All three serve any kind of symbols. `specs/Rows.antt` says what it is to spell a row.
 //!
-//! `read_row::<TilesAreKind>(heap, b"R0Y9")` is a row of two tiles; `b"R0Y"` is refused behind one symbol.
+//! `read_row::<Tiles>(heap, b"R0Y9")` is a row of two tiles; `b"R0Y"` is refused behind one symbol.
 
 #![tactic(auto)]
 
