@@ -2,7 +2,7 @@
 use Rattle.std.specs.Prelude.{◌≡◌, ℕ, ◌+◌, ◌<◌, ◌≤◌, false, ◌⊎◌, List, length, take, slice_index}
 use Rattle.symbols.specs.contracts.letters.LettersKind.TheImpl.{ghosts as letters}
 use Rattle.symbol_rows.specs.Rows.{AllSymbols, NoSymbolAfter}
-use Rattle.grammar.specs.declared.tree.Alphabet.TheVariants.{Letters}
+use Rattle.alphabets.specs.declared.Alphabet.TheVariants.{Letters}
 use Rattle.refusals.specs.declared.Refusal.{Refusal}
 use Rattle.plans.specs.Plans.{RefusedText}
 use Rattle.sessions.specs.RowLanguage.{Belongs, NeedIs, IsStuck}

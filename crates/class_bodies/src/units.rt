@@ -1,11 +1,11 @@
 ghost use Rattle.std.specs.Prelude.{◌≡◌, ℕ, ◌+◌, ◌*◌, ◌<◌, ◌≤◌, true, false, ◌&&◌, IfOk, OnOk, nat_le, nat_lt};
 ghost use Rattle.bits.specs.Members.{member};
 ghost use Rattle.grammar.specs.Codes.{ColourUnit, FaceUnit, colour_of, codes_of, codes_of_tile};
-ghost use Rattle.grammar.specs.Nodes.{unit_of};
+ghost use Rattle.alphabets.specs.Alphabets.{unit_of};
 ghost use Rattle.class_bodies.specs.ClassBody.{SpellsCodes, SpellsMore};
 
 use bits::Set64;
-use grammar::Alphabet;
+use alphabets::Alphabet;
 use std::alloc::{AllocError, Global};
 
 // The first number from `low` on that is not in the set, or 26 where all numbers from `low` to 25 are.

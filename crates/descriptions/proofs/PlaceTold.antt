@@ -8,8 +8,8 @@ use Rattle.automata.specs.Links.{Cross}
 use Rattle.automata.proofs.Ranges.{cross_range}
 use Rattle.grammar.specs.Ast.{Ast}
 use Rattle.grammar.specs.Codes.{codes_of}
-use Rattle.grammar.specs.Nodes.{unit_of}
-use Rattle.grammar.specs.declared.tree.Alphabet.{Alphabet}
+use Rattle.alphabets.specs.Alphabets.{unit_of}
+use Rattle.alphabets.specs.declared.Alphabet.{Alphabet}
 use Rattle.plans.specs.Plans.{RefusedText}
 use Rattle.refusals.specs.declared.Refusal.TheVariants.{Length, Memory}
 use Rattle.checks.specs.Faults.{places_of}

@@ -3,8 +3,8 @@ use Rattle.std.specs.Prelude.{◌≡◌, ℕ, ◌+◌, ◌<◌, List, vec_items,
 use Rattle.automata.specs.Places.{size, First, Last, Holds, low, width}
 use Rattle.bits.specs.Members.{member}
 use Rattle.grammar.specs.Ast.{Ast}
-use Rattle.grammar.specs.Nodes.{unit_of}
-use Rattle.grammar.specs.declared.tree.Alphabet.{Alphabet}
+use Rattle.alphabets.specs.Alphabets.{unit_of}
+use Rattle.alphabets.specs.declared.Alphabet.{Alphabet}
 use Rattle.checks.specs.Faults.{places_of}
 use Rattle.syntax.specs.Refuses.{Accepted}
 use Rattle.syntax.specs.TextLanguage.{tree_of}

@@ -1,7 +1,7 @@
 -- The word that names a kind.
 use Rattle.std.specs.Prelude.{ℕ, List, codes}
-use Rattle.grammar.specs.declared.tree.Alphabet.{Alphabet}
-use Rattle.grammar.specs.declared.tree.Alphabet.TheVariants.{Letters, Tiles}
+use Rattle.alphabets.specs.declared.Alphabet.{Alphabet}
+use Rattle.alphabets.specs.declared.Alphabet.TheVariants.{Letters, Tiles}
 
 abbrev pub word_of : Alphabet → List ℕ
 word_of Letters = codes "letters"

@@ -2,8 +2,8 @@
 use Rattle.std.specs.Prelude.{◌≡◌, ℕ, ◌+◌, ◌<◌, ◌&&◌, List, vec_items, nat_lt, slice_index, slice_index_or}
 use Rattle.bits.specs.Members.{member}
 use Rattle.grammar.specs.Codes.{codes_of}
-use Rattle.grammar.specs.Nodes.{unit_of}
-use Rattle.grammar.specs.declared.tree.Alphabet.{Alphabet}
+use Rattle.alphabets.specs.Alphabets.{unit_of}
+use Rattle.alphabets.specs.declared.Alphabet.{Alphabet}
 use Rattle.widths.specs.Width.{width_of}
 use Rattle.tables.specs.Masks.{cross, has_place}
 use Rattle.tables.specs.Tables.{takes, low_of, links_of}

@@ -1,5 +1,5 @@
 use bits::Set64;
-use grammar::Alphabet;
+use alphabets::Alphabet;
 use tables::Table;
 
 /// What is told of a place.

@@ -1,8 +1,8 @@
 ghost use Rattle.std.specs.Prelude.{◌≡◌, Decides, MatchOption, ◌≢◌};
-ghost use Rattle.grammar.specs.declared.tree.Alphabet.{Alphabet as Named};
-ghost use Rattle.descriptions.specs.Kinds.{word_of};
+ghost use Rattle.alphabets.specs.declared.Alphabet.{Alphabet as Named};
+ghost use Rattle.alphabets.specs.Alphabets.{word_of};
 
-use grammar::Alphabet;
+use alphabets::Alphabet;
 
 // Whether two words are the same.
 fn is_word(a: &[u8], b: &[u8]) -> bool

@@ -7,7 +7,7 @@ ghost use Rattle.descriptions.specs.Told.{Told, EachTold};
 
 use crate::data::Place;
 use class_bodies::class_body;
-use grammar::Alphabet;
+use alphabets::Alphabet;
 use std::alloc::{AllocError, Global};
 use tables::{CROSS, NEXT, Table, WITHIN};
 

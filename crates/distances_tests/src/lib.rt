@@ -6,7 +6,7 @@
 mod tests {
     use distances::{mark_of, measure, wipe};
     use glushkov::table_of;
-    use grammar::Alphabet;
+    use alphabets::Alphabet;
     use std::alloc::Global;
     use std::test::Fail;
     use syntax::parse;

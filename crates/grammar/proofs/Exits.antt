@@ -2,9 +2,9 @@
 use Rattle.std.proofs.Common.{◌≡◌, ℕ, List, IsErrAnd, Ok, Err, Result, sym, subst}
 use Rattle.grammar.specs.Ast.{Ast}
 use Rattle.grammar.specs.Grammar.{Pattern}
-use Rattle.grammar.specs.Nodes.{unit_of}
+use Rattle.alphabets.specs.Alphabets.{unit_of}
 use Rattle.grammar.specs.Reading.{AfterPattern, Stops, Reads, Faults, Tells}
-use Rattle.grammar.specs.declared.tree.Alphabet.{Alphabet}
+use Rattle.alphabets.specs.declared.Alphabet.{Alphabet}
 use Rattle.grammar.specs.declared.tree.Node.{Node}
 use Rattle.grammar.proofs.Whole.{byte_at, end_at}
 use Rattle.refusals.specs.declared.Refusal.{Refusal}

@@ -4,17 +4,10 @@ use Rattle.bits.specs.Members.{member}
 use Rattle.bits.specs.declared.set.Set64.{Set64}
 use Rattle.grammar.specs.Codes.{Codes}
 use Rattle.grammar.specs.Ast.{Ast, empty, leaf, class, cat, alt, repeat, Repetition, star, plus, opt, counted}
-use Rattle.grammar.specs.declared.tree.Alphabet.{Alphabet}
-use Rattle.grammar.specs.declared.tree.Alphabet.TheVariants.{Letters, Tiles}
 use Rattle.grammar.specs.declared.tree.Node.{Node}
 use Rattle.grammar.specs.declared.tree.Node.TheVariants.{Empty, Leaf, Class, Cat', Alt', Repeat'}
 use Rattle.grammar.specs.declared.tree.Times.{Times}
 use Rattle.grammar.specs.declared.tree.Times.TheVariants.{Star, Plus, Opt, Counted}
-
--- how many bytes a unit has
-abbrev pub unit_of : Alphabet → ℕ
-unit_of Letters = 1
-unit_of Tiles = 2
 
 abbrev pub repetition_of : Times → Repetition
 repetition_of Star = star

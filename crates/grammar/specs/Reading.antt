@@ -3,8 +3,9 @@ use Rattle.std.specs.Prelude.{◌≡◌, ℕ, ◌+◌, ◌<◌, ◌≤◌, ◌�
 use Rattle.grammar.specs.Codes.{LetterUnit, ColourUnit}
 use Rattle.grammar.specs.Ast.{Ast}
 use Rattle.grammar.specs.Grammar.{byte, Begins, IsPattern}
-use Rattle.grammar.specs.Nodes.{ast_of, unit_of}
-use Rattle.grammar.specs.declared.tree.Alphabet.{Alphabet}
+use Rattle.grammar.specs.Nodes.{ast_of}
+use Rattle.alphabets.specs.Alphabets.{unit_of}
+use Rattle.alphabets.specs.declared.Alphabet.{Alphabet}
 use Rattle.grammar.specs.declared.tree.Node.{Node}
 use Rattle.grammar.specs.declared.bytes.Role.{Role}
 use Rattle.grammar.specs.declared.bytes.Role.TheVariants as roles

@@ -1,7 +1,7 @@
 //! Reads the text of a pattern into its tree.
 //!
 //! `specs/Grammar.antt` is the grammar, as a relation between a part of a text and its tree; a text has at most one tree.
-//! `Node` is that tree in memory; it keeps the byte places that refusals point at. `Alphabet` says how a symbol is written.
+//! `Node` is that tree in memory; it keeps the byte places that refusals point at. `Alphabet`, of `alphabets`, says how a symbol is written.
 //! `read_tree` answers the tree of a text, or the byte with which the text stops being the beginning of a pattern,
 //! or that the text begins a pattern and is none. What a pattern may further not have is not checked here.
 //!
@@ -18,4 +18,4 @@ mod tree;
 mod units;
 
 pub use patterns::read_tree;
-pub use tree::{Alphabet, Node, Times};
+pub use tree::{Node, Times};

@@ -2,15 +2,16 @@
 ghost use Rattle.std.specs.Prelude.{◌≡◌, ◌+◌, ◌<◌, ◌≤◌, length};
 ghost use Rattle.grammar.specs.Ast.{Ast};
 ghost use Rattle.grammar.specs.Grammar.{byte, Pattern, Branch, Piece, Atom};
-ghost use Rattle.grammar.specs.Nodes.{ast_of, unit_of};
+ghost use Rattle.grammar.specs.Nodes.{ast_of};
 ghost use Rattle.grammar.specs.Reading.{Reads, Tells, AfterPattern, AfterBranch, AfterPiece, Anything};
 
 use crate::bounds::quantifier;
 use crate::bytes::{Role, next_is, role_at};
 use crate::classes::class;
 use crate::makers::{alt, cat, repeat};
-use crate::tree::{Alphabet, Node};
+use crate::tree::Node;
 use crate::units::{letter_codes, tile};
+use alphabets::Alphabet;
 use refusals::Refusal;
 use std::alloc::Global;
 
@@ -96,21 +97,11 @@ fn group(heap: Global, unit: usize, s: &[u8], at: usize) -> Result<(Node, usize)
     }
 }
 
-/// How many bytes a unit has.
-fn unit_length(alphabet: Alphabet) -> usize
-    ensures { (result ≡ unit_of alphabet) × (1 ≤ result) × (result ≤ 2) }
-{
-    match alphabet {
-        Alphabet::Letters => 1,
-        Alphabet::Tiles => 2,
-    }
-}
-
 /// The tree of a whole text.
 pub fn read_tree(heap: Global, alphabet: Alphabet, text: &[u8]) -> Result<Node, Refusal>
     ensures { Tells alphabet text.now result }
 {
-    let (tree, p) = pattern(heap, unit_length(alphabet), text, 0)?;
+    let (tree, p) = pattern(heap, alphabet.unit_length(), text, 0)?;
     if p < text.len() {
         Err(Refusal::Byte(p))
     } else {

@@ -1,15 +1,6 @@
 //! The tree of a pattern, as it is kept in memory.
 use bits::Set64;
 
-/// How a symbol is written in a pattern.
-#[derive(Clone, Copy, PartialEq, Eq, Debug)]
-pub enum Alphabet {
-    /// 26 letters; a unit is one byte.
-    Letters,
-    /// 40 tiles; a unit is two bytes, the colour and the face.
-    Tiles,
-}
-
 /// How often a part comes.
 #[derive(Clone, Copy)]
 pub enum Times {

@@ -3,7 +3,7 @@ use Rattle.std.proofs.Common.{◌≡◌, ℕ, ◌<◌, ◌≤◌, ◌⊎◌, Lis
 use Rattle.refusals.specs.declared.Refusal.{Refusal}
 use Rattle.refusals.specs.declared.Refusal.TheVariants.{Length, Byte, End, Range, Empty, Bounds, Nested, Places, Counts, Symbol, Work, Code, Full, Complete, Stuck, Memory}
 use Rattle.refusals.specs.Numbering.{number_of, place_of}
-use Rattle.grammar.specs.declared.tree.Alphabet.TheVariants.{Letters}
+use Rattle.alphabets.specs.declared.Alphabet.TheVariants.{Letters}
 use Rattle.syntax.specs.Refuses.{Refuses, Applies}
 use Rattle.plans.specs.Plans.{RefusedText}
 use Rattle.symbols.specs.declared.letters.Letters.{Letters as LettersType}

@@ -5,7 +5,7 @@ use Rattle.refusals.specs.declared.Refusal.{Refusal}
 use Rattle.refusals.specs.declared.Refusal.TheVariants.{Symbol}
 use Rattle.refusals.specs.Numbering.{number_of, place_of}
 use Rattle.grammar.specs.Ast.{Ast}
-use Rattle.grammar.specs.declared.tree.Alphabet.TheVariants.{Letters}
+use Rattle.alphabets.specs.declared.Alphabet.TheVariants.{Letters}
 use Rattle.syntax.specs.Refuses.{Refuses, Accepted}
 use Rattle.symbols.specs.contracts.letters.LettersKind.TheImpl.{ghosts as letters}
 use Rattle.symbol_rows.specs.Rows.{AllSymbols, NoSymbolAfter}

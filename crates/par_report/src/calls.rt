@@ -3,7 +3,7 @@ ghost use Rattle.plans.specs.Plans.{PlanOf, RefusedText};
 ghost use Rattle.symbols.specs.contracts.letters.LettersKind.TheImpl.{ghosts as letters};
 ghost use Rattle.bit_bank.specs.contracts.calls.BitBankBank.TheImpl.{ghosts as bits};
 ghost use Rattle.sessions.specs.Runs.{RightAt};
-ghost use Rattle.grammar.specs.declared.tree.Alphabet.{Alphabet as Written};
+ghost use Rattle.alphabets.specs.declared.Alphabet.{Alphabet as Written};
 ghost use Rattle.par_report.specs.Pars.{Judged, Reported};
 
 use crate::data::Par;

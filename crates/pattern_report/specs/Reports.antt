@@ -1,10 +1,10 @@
 -- What the report says of an input of two lines: the kind's name, and a pattern.
 use Rattle.std.specs.Prelude.{◌≡◌, ℕ, List, ◌≢◌}
-use Rattle.grammar.specs.declared.tree.Alphabet.{Alphabet}
+use Rattle.alphabets.specs.declared.Alphabet.{Alphabet}
 use Rattle.input.specs.Lines.{TwoLines}
 use Rattle.plans.specs.Plans.{RefusedText}
 use Rattle.descriptions.specs.Describes.{Describes}
-use Rattle.descriptions.specs.Kinds.{word_of}
+use Rattle.alphabets.specs.Alphabets.{word_of}
 use Rattle.pattern_report.specs.declared.data.Report.{Report}
 use Rattle.pattern_report.specs.declared.data.Report.TheVariants.{Described, Refused, UnknownKind}
 

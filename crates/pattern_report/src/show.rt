@@ -1,6 +1,6 @@
 use crate::data::Report;
 use descriptions::{Description, Place, links_at};
-use grammar::Alphabet;
+use alphabets::Alphabet;
 use refusals::Refusal;
 use std::fmt;
 use tables::Table;

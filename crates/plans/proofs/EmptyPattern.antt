@@ -2,8 +2,8 @@
 use Rattle.std.proofs.Common.{ℕ, [], arith}
 use Rattle.grammar.specs.Ast.{empty}
 use Rattle.grammar.specs.Grammar.{IsPattern, last, none}
-use Rattle.grammar.specs.Nodes.{unit_of}
-use Rattle.grammar.specs.declared.tree.Alphabet.{Alphabet}
+use Rattle.alphabets.specs.Alphabets.{unit_of}
+use Rattle.alphabets.specs.declared.Alphabet.{Alphabet}
 use Rattle.grammar.proofs.Whole.{one_tree}
 use Rattle.syntax.specs.Refuses.{Accepted}
 use Rattle.syntax.proofs.Refused.{accepted}

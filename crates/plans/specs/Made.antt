@@ -1,7 +1,7 @@
 -- A table that was made from a text.
 use Rattle.std.specs.Prelude.{ℕ, List}
 use Rattle.grammar.specs.Ast.{Ast}
-use Rattle.grammar.specs.declared.tree.Alphabet.{Alphabet}
+use Rattle.alphabets.specs.declared.Alphabet.{Alphabet}
 use Rattle.syntax.specs.Refuses.{Accepted}
 use Rattle.syntax.specs.TextLanguage.{tree_of}
 use Rattle.tables.specs.Tables.{TableOf}

@@ -1,7 +1,7 @@
 -- Which plan a text has, and what reading leaves.
 use Rattle.std.specs.Prelude.{◌≡◌, ℕ, ◌≤◌, cond, ◌⊎◌, List, [], length, Ok, Err, Result, ◌==◌}
-use Rattle.grammar.specs.declared.tree.Alphabet.{Alphabet}
-use Rattle.grammar.specs.declared.tree.Alphabet.TheVariants.{Letters, Tiles}
+use Rattle.alphabets.specs.declared.Alphabet.{Alphabet}
+use Rattle.alphabets.specs.declared.Alphabet.TheVariants.{Letters, Tiles}
 use Rattle.refusals.specs.declared.Refusal.{Refusal}
 use Rattle.refusals.specs.declared.Refusal.TheVariants.{Memory}
 use Rattle.symbols.specs.declared.kind.Kind.{Ghosts}

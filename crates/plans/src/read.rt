@@ -4,7 +4,7 @@ ghost use Rattle.plans.specs.Plans.{alphabet_of, PlanOf, ReadInto};
 
 use crate::plan::Plan;
 use crate::texts::{empty_table, text_table};
-use grammar::Alphabet;
+use alphabets::Alphabet;
 use refusals::Refusal;
 use std::alloc::Global;
 use std::marker::PhantomData;

@@ -3,7 +3,8 @@ ghost use Rattle.plans.specs.Made.{TableFrom};
 ghost use Rattle.plans.specs.Plans.{RefusedText};
 
 use glushkov::table_of;
-use grammar::{Alphabet, Node};
+use alphabets::Alphabet;
+use grammar::Node;
 use refusals::Refusal;
 use std::alloc::Global;
 use syntax::parse;

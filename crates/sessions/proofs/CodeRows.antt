@@ -8,8 +8,8 @@ use Rattle.automata.specs.Completion.{Completed, Need, Stuck, Hint}
 use Rattle.automata.proofs.Completions.{least_like}
 use Rattle.grammar.specs.Ast.{Ast}
 use Rattle.grammar.specs.Codes as grammar
-use Rattle.grammar.specs.Nodes.{unit_of}
-use Rattle.grammar.specs.declared.tree.Alphabet.TheVariants.{Letters, Tiles}
+use Rattle.alphabets.specs.Alphabets.{unit_of}
+use Rattle.alphabets.specs.declared.Alphabet.TheVariants.{Letters, Tiles}
 use Rattle.syntax.specs.Refuses.{Accepted}
 use Rattle.syntax.specs.TextLanguage.{tree_of}
 use Rattle.symbols.specs.declared.kind.Kind.{Ghosts}

@@ -4,9 +4,9 @@ use Rattle.std.proofs.lemmas.List.{take-take, take_all, append-nil}
 use Rattle.std.proofs.lemmas.Bool.{cases_order}
 use Rattle.grammar.specs.Ast.{Ast}
 use Rattle.grammar.specs.Grammar.{IsPattern, Begins}
-use Rattle.grammar.specs.Nodes.{unit_of}
+use Rattle.alphabets.specs.Alphabets.{unit_of}
 use Rattle.grammar.specs.Reading.{ByteAt}
-use Rattle.grammar.specs.declared.tree.Alphabet.{Alphabet}
+use Rattle.alphabets.specs.declared.Alphabet.{Alphabet}
 use Rattle.grammar.proofs.Whole.{one_tree}
 use Rattle.refusals.specs.Numbering.{number_of}
 use Rattle.refusals.specs.declared.Refusal.{Refusal}

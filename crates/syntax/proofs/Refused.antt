@@ -3,9 +3,9 @@ use Rattle.std.proofs.Common.{◌≡◌, ℕ, ◌+◌, ◌<◌, ◌≤◌, List,
 use Rattle.std.proofs.lemmas.Bool.{cases_lt}
 use Rattle.grammar.specs.Ast.{Ast}
 use Rattle.grammar.specs.Grammar.{IsPattern}
-use Rattle.grammar.specs.Nodes.{unit_of}
+use Rattle.alphabets.specs.Alphabets.{unit_of}
 use Rattle.grammar.specs.Reading.{Tells}
-use Rattle.grammar.specs.declared.tree.Alphabet.{Alphabet}
+use Rattle.alphabets.specs.declared.Alphabet.{Alphabet}
 use Rattle.grammar.specs.declared.tree.Node.{Node}
 use Rattle.automata.specs.Language.{In}
 use Rattle.refusals.specs.Numbering.{number_of}

@@ -5,9 +5,10 @@ use Rattle.automata.specs.Places.{size, width}
 use Rattle.grammar.specs.Ast.{Ast}
 use Rattle.grammar.specs.Codes.{codes_of}
 use Rattle.grammar.specs.Grammar.{IsPattern}
-use Rattle.grammar.specs.Nodes.{ast_of, unit_of}
+use Rattle.grammar.specs.Nodes.{ast_of}
+use Rattle.alphabets.specs.Alphabets.{unit_of}
 use Rattle.grammar.specs.Reading.{ByteAt, EndAt, TheTree}
-use Rattle.grammar.specs.declared.tree.Alphabet.{Alphabet}
+use Rattle.alphabets.specs.declared.Alphabet.{Alphabet}
 use Rattle.grammar.specs.declared.tree.Node.{Node}
 use Rattle.refusals.specs.Numbering.{number_of}
 use Rattle.refusals.specs.declared.Refusal.{Refusal}

@@ -4,8 +4,8 @@ use Rattle.automata.specs.Language as l
 use Rattle.automata.specs.Language.{Tree, In}
 use Rattle.grammar.specs.Ast.{Ast, empty, leaf, class, cat, alt, repeat, Repetition, star, plus, opt, counted}
 use Rattle.grammar.specs.Grammar.{IsPattern}
-use Rattle.grammar.specs.Nodes.{unit_of}
-use Rattle.grammar.specs.declared.tree.Alphabet.{Alphabet}
+use Rattle.alphabets.specs.Alphabets.{unit_of}
+use Rattle.alphabets.specs.declared.Alphabet.{Alphabet}
 
 abbrev pub repeated : Repetition → Tree → Tree
 repeated star a = l.star a

@@ -2,7 +2,8 @@
 ghost use Rattle.syntax.specs.Refuses.{Parses};
 
 use checks::check;
-use grammar::{Alphabet, Node, read_tree};
+use alphabets::Alphabet;
+use grammar::{Node, read_tree};
 use refusals::Refusal;
 use std::alloc::Global;
 

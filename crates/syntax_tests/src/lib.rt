@@ -7,7 +7,7 @@
 
 #[cfg(test)]
 mod tests {
-    use grammar::Alphabet;
+    use alphabets::Alphabet;
     use std::alloc::Global;
     use std::process::Abort;
     use std::test::Fail;

@@ -5,8 +5,8 @@ use Rattle.std.proofs.lemmas.Bool.{and_parts, or_cases, both_ways, leb-true}
 use Rattle.grammar.specs.Ast.{Ast, empty, leaf, class, cat, alt, repeat, star, plus, opt, counted}
 use Rattle.grammar.specs.Codes.{Codes}
 use Rattle.grammar.specs.Grammar.{IsPattern}
-use Rattle.grammar.specs.Nodes.{unit_of}
-use Rattle.grammar.specs.declared.tree.Alphabet.{Alphabet}
+use Rattle.alphabets.specs.Alphabets.{unit_of}
+use Rattle.alphabets.specs.declared.Alphabet.{Alphabet}
 use Rattle.grammar.proofs.Whole.{one_tree}
 use Rattle.checks.specs.Faults.{BackwardAt, EmptyAt, BoundsAt, CountedAt, NestedAt, places_of, Nowhere}
 use Rattle.syntax.specs.Refuses.{Accepted}

@@ -10,8 +10,8 @@ use Rattle.automata.specs.Examples.{Listed}
 use Rattle.automata.proofs.Computed.{any, front_pairs, needb, Same, front_same, fits_by_test, need_by_test, stuck_by_test}
 use Rattle.grammar.specs.Ast.{Ast}
 use Rattle.grammar.specs.Codes.{colour_of, codes_of_letter, codes_of_tile}
-use Rattle.grammar.specs.declared.tree.Alphabet.{Alphabet}
-use Rattle.grammar.specs.declared.tree.Alphabet.TheVariants.{Letters, Tiles}
+use Rattle.alphabets.specs.declared.Alphabet.{Alphabet}
+use Rattle.alphabets.specs.declared.Alphabet.TheVariants.{Letters, Tiles}
 use Rattle.refusals.specs.declared.Refusal.TheVariants.{Byte, End, Empty, Nested}
 use Rattle.syntax.specs.Refuses.{Accepted}
 use Rattle.syntax.specs.TextLanguage.{tree_of}

@@ -5,7 +5,7 @@ use Rattle.grammar.specs.Ast.{Ast, Repetition}
 use Rattle.grammar.specs.Codes.{codes_of_range, no_codes, joined_codes, other_codes}
 use Rattle.grammar.specs.Grammar.{back_of, Number, Quantifier, Pattern, Atom, any, last, once}
 use Rattle.grammar.specs.Reading.{AfterPattern, AfterNumber, Anything, Read, Stops}
-use Rattle.grammar.specs.declared.tree.Alphabet.TheVariants.{Letters}
+use Rattle.alphabets.specs.declared.Alphabet.TheVariants.{Letters}
 use Rattle.grammar.proofs.Firsts.{not_after_branch, atom_first}
 use Rattle.grammar.proofs.BoundStops.{number_stops_first, bound_stops_in_high, quantifier_stops_in_bound}
 use Rattle.grammar.proofs.PatternStops.{piece_stops_in_atom, piece_stops_in_quantifier, piece_stops_at_second, group_stops_at_end, pattern_stops_in_branch, branch_stops_in_piece}

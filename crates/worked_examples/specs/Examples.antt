@@ -8,8 +8,8 @@ use Rattle.automata.specs.Completion.{Need, Stuck}
 use Rattle.automata.specs.Examples.{Listed, letters_a}
 use Rattle.grammar.specs.Ast.{Ast}
 use Rattle.grammar.specs.Codes.{colour_of}
-use Rattle.grammar.specs.declared.tree.Alphabet.{Alphabet}
-use Rattle.grammar.specs.declared.tree.Alphabet.TheVariants.{Letters, Tiles}
+use Rattle.alphabets.specs.declared.Alphabet.{Alphabet}
+use Rattle.alphabets.specs.declared.Alphabet.TheVariants.{Letters, Tiles}
 use Rattle.refusals.specs.Numbering.{number_of, place_of}
 use Rattle.refusals.specs.declared.Refusal.{Refusal}
 use Rattle.syntax.specs.Refuses.{Refuses, Accepted}

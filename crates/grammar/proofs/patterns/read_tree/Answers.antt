@@ -2,7 +2,8 @@
 use Rattle.std.proofs.Common.{subst, arith}
 use Rattle.grammar.specs.Ast.{Ast}
 use Rattle.grammar.specs.Grammar.{Pattern, IsPattern}
-use Rattle.grammar.specs.Nodes.{ast_of, unit_of}
+use Rattle.grammar.specs.Nodes.{ast_of}
+use Rattle.alphabets.specs.Alphabets.{unit_of}
 use Rattle.grammar.specs.Reading.{AfterPattern, Read, Faults}
 use Rattle.grammar.proofs.Exits.{told}
 use Rattle.grammar.proofs.Whole.{one_tree, too_many}

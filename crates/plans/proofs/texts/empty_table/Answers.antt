@@ -1,5 +1,5 @@
 use Rattle.grammar.specs.Ast.{empty}
-use Rattle.grammar.specs.declared.tree.Alphabet.TheVariants.{Letters, Tiles}
+use Rattle.alphabets.specs.declared.Alphabet.TheVariants.{Letters, Tiles}
 use Rattle.plans.proofs.EmptyPattern.{empty_accepted}
 use Rattle.plans.proofs.texts.empty_table.Goals as goal
 
