@@ -1,17 +1,11 @@
 -- The lines of a text.
-use Rattle.std.specs.Prelude.{◌≡◌, ℕ, ◌<◌, ◌≤◌, ◌⊎◌, List, [], ◌∷◌, ◌++◌, length, ◌≢◌, slice_index}
+use Rattle.std.specs.Prelude.{◌≡◌, ℕ, ◌⊎◌, List, [], ◌∷◌, ◌++◌, ◌≢◌}
 use Rattle.std.specs.List.{AllByRecursion}
 
 -- Byte 10 ends a line, and may be missing at the end of the text: `first` is the first line of `text`, and `rest` what comes behind it.
 pub record FirstLine (text first rest : List ℕ) : Type 0 where
   pub one : AllByRecursion (λ b. b ≢ 10) first
   pub splits : (text ≡ first ++ 10 ∷ rest) ⊎ ((text ≡ first) × (rest ≡ []))
-
--- The first line ends at the place n: at a byte 10 or at the end of the text, and no byte before is a 10.
-pub record LineEnd (text : List ℕ) (n : ℕ) : Type 0 where
-  pub inside : n ≤ length text
-  pub before : (i : ℕ) → i < n → slice_index text i ≢ 10
-  pub here : n < length text → slice_index text n ≡ 10
 
 -- The first and the second line of a text. A missing line is empty.
 abbrev pub TwoLines : List ℕ → List ℕ → List ℕ → Type 0

@@ -7,8 +7,8 @@
 
 #![tactic(auto)]
 
-ghost use Rattle.std.specs.Prelude.{◌≡◌, ℕ, ◌≤◌, IfOk, vec_len};
-ghost use Rattle.input.specs.Lines.{LineEnd, FirstLine, TwoLines};
+ghost use Rattle.std.specs.Prelude.{◌≤◌, IfOk, vec_len};
+ghost use Rattle.input.specs.Lines.{FirstLine, TwoLines};
 
 use std::alloc::Global;
 use std::io;
@@ -27,35 +27,14 @@ pub fn read_input<R: Read + Drop>(heap: Global, stream: R) -> io::Result<Vec<u8>
     Ok(bytes)
 }
 
-// Where the first line ends: at the first byte 10, or at the end of the text.
-fn line_end(text: &[u8]) -> usize
-    ensures { LineEnd text.now result }
-{
-    for (i, b) in text.iter().enumerate() {
-        if *b == b'\n' {
-            return i;
-        }
-    }
-    text.len()
-}
-
-// The line that ends at n, and what comes behind it.
-fn part(text: &[u8], n: usize) -> (&[u8], &[u8])
-    requires { LineEnd text.now n }
-    ensures { FirstLine text.now result.0.now result.1.now }
-{
-    if n < text.len() {
-        (&text[0..n], &text[n + 1..])
-    } else {
-        (text, &text[n..])
-    }
-}
-
 /// The first line of a text, and what comes behind it.
 pub fn first_line(text: &[u8]) -> (&[u8], &[u8])
     ensures { FirstLine text.now result.0.now result.1.now }
 {
-    part(text, line_end(text))
+    match text.iter().position(|b| *b == b'\n') {
+        Some(end) => (&text[..end], &text[end + 1..]),
+        None => (text, &[]),
+    }
 }
 
 /// The first two lines of a text.

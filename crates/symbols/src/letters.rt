@@ -69,13 +69,7 @@ impl Kind for Letters {
 
     fn unspell(u: &[u8]) -> Result<u8, Refusal> {
         match u {
-            [b] => {
-                if *b >= b'a' && *b <= b'z' {
-                    Ok(*b)
-                } else {
-                    Err(Refusal::Symbol)
-                }
-            }
+            [b @ b'a'..=b'z'] => Ok(*b),
             _ => Err(Refusal::Symbol),
         }
     }

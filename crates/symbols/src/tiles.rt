@@ -86,7 +86,7 @@ impl Kind for Tiles {
     }
 
     fn unspell(u: &[u8]) -> Result<Tile, Refusal> {
-        let [c, f] = u else {
+        let [c, f @ b'0'..=b'9'] = u else {
             return Err(Refusal::Symbol);
         };
         let colour = match *c {
@@ -96,12 +96,9 @@ impl Kind for Tiles {
             b'Y' => 3,
             _ => return Err(Refusal::Symbol),
         };
-        match *f {
-            b'0'..=b'9' => Ok(Tile {
-                colour,
-                face: *f - b'0',
-            }),
-            _ => Err(Refusal::Symbol),
-        }
+        Ok(Tile {
+            colour,
+            face: *f - b'0',
+        })
     }
 }
