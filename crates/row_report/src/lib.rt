@@ -1,28 +1,26 @@
 //! A report on a row: its kind, its symbols' codes, and the row spelled again from its symbols.
 //!
-//! The input is two lines: `letters` or `tiles`, and a row spelled in that kind's units. `report_row` answers a `Report`, which prints
-//! itself; a unit that is none is refused with the number of symbols before it.
+//! The input is two lines: `letters` or `tiles`, and a row spelled in that kind's units. `report_row` answers a `Report`, or a `ReportError`:
+//! the refusal of the row, with the number of symbols before the unit that is none, or that the first line names no kind. Both print themselves.
 //!
 //! For the lines `tiles` and `R0Y9` the codes are 0 and 39.
 
 #![tactic(auto)]
 
-ghost use Rattle.std.specs.Prelude.{◌≡◌, ℕ, Decides, MatchOption, ◌≢◌};
+ghost use Rattle.std.specs.Prelude.{◌≡◌};
+ghost use Rattle.alphabets.specs.declared.UnknownAlphabet.{UnknownAlphabet as Unknown};
+ghost use Rattle.symbol_rows.specs.declared.row.RowRefusal.{RowRefusal as RefusedRow};
 ghost use Rattle.row_report.specs.Described.{Described};
-ghost use Rattle.row_report.specs.Reports.{Reports, DescribedAs, word_of};
+ghost use Rattle.row_report.specs.Reports.{Reports, DescribedAs};
+ghost use Rattle.row_report.specs.declared.ReportError.TheVariants.{Refused, UnknownKind};
 
+use alphabets::{Alphabet, UnknownAlphabet};
 use input::two_lines;
 use std::alloc::Global;
 use std::fmt;
 use symbol_rows::{RowRefusal, read_row, row_codes, spell_row};
 use symbols::{Kind, Letters, Tiles};
-
-/// The kinds that can be named.
-#[derive(Clone, Copy)]
-pub enum KindName {
-    Letters,
-    Tiles,
-}
+use thiserror::Error;
 
 /// What is told of a row: the codes of its symbols, and the bytes that spell them.
 #[derive(Drop)]
@@ -31,15 +29,38 @@ pub struct Row {
     pub spelled: Vec<u8>,
 }
 
-/// What is told of an input.
+/// What is told of an input: a row of the kind that was named.
 #[derive(Drop)]
-pub enum Report {
-    /// A row of this kind.
-    Described(KindName, Row),
+pub struct Report {
+    pub kind: Alphabet,
+    pub row: Row,
+}
+
+/// Why an input is not reported on.
+#[derive(Clone, Copy, PartialEq, Eq, Debug, Error)]
+pub enum ReportError {
     /// No row of the kind that was named.
+    #[error("{0}")]
     Refused(RowRefusal),
     /// The first line names no kind.
+    #[error("the first line must be letters or tiles")]
     UnknownKind,
+}
+
+impl From<RowRefusal> for ReportError {
+    ghost from_gives = { λ r e. e ≡ Refused r };
+
+    fn from(refusal: RowRefusal) -> ReportError {
+        ReportError::Refused(refusal)
+    }
+}
+
+impl From<UnknownAlphabet> for ReportError {
+    ghost from_gives = { λ _ e. e ≡ UnknownKind };
+
+    fn from(_unknown: UnknownAlphabet) -> ReportError {
+        ReportError::UnknownKind
+    }
 }
 
 /// The codes and the spelling of the row that these bytes spell.
@@ -52,57 +73,24 @@ pub fn describe<K: Kind>(heap: Global, bytes: &[u8]) -> Result<Row, RowRefusal>
     Ok(Row { codes, spelled })
 }
 
-// Whether two words are the same.
-fn is_word(a: &[u8], b: &[u8]) -> bool
-    ensures { Decides result (a.now ≡ b.now) }
-{
-    a == b
-}
-
-/// The kind that a word names.
-pub fn kind_of(word: &[u8]) -> Option<KindName>
-    ensures { MatchOption result ((name : KindName) → word.now ≢ word_of name) (λ name. word.now ≡ word_of name) }
-{
-    if is_word(word, b"letters") {
-        Some(KindName::Letters)
-    } else if is_word(word, b"tiles") {
-        Some(KindName::Tiles)
-    } else {
-        None
-    }
-}
-
 /// Describes a row of the kind that was named.
-pub fn describe_as(heap: Global, name: KindName, bytes: &[u8]) -> Result<Row, RowRefusal>
-    ensures { DescribedAs name bytes.now result }
+pub fn describe_as(heap: Global, kind: Alphabet, bytes: &[u8]) -> Result<Row, RowRefusal>
+    ensures { DescribedAs kind bytes.now result }
 {
-    match name {
-        KindName::Letters => describe::<Letters>(heap, bytes),
-        KindName::Tiles => describe::<Tiles>(heap, bytes),
+    match kind {
+        Alphabet::Letters => describe::<Letters>(heap, bytes),
+        Alphabet::Tiles => describe::<Tiles>(heap, bytes),
     }
 }
 
 /// The report on an input of two lines.
-pub fn report_row(heap: Global, input: &[u8]) -> Report
+pub fn report_row(heap: Global, input: &[u8]) -> Result<Report, ReportError>
     ensures { Reports input.now result }
 {
     let (first, second) = two_lines(input);
-    let Some(name) = kind_of(first) else {
-        return Report::UnknownKind;
-    };
-    match describe_as(heap, name, second) {
-        Ok(row) => Report::Described(name, row),
-        Err(e) => Report::Refused(e),
-    }
-}
-
-impl fmt::Display for KindName {
-    fn fmt<W: fmt::Write>(&self, f: &mut fmt::Formatter<W>) -> fmt::Result {
-        match self {
-            KindName::Letters => write!(f, "letters"),
-            KindName::Tiles => write!(f, "tiles"),
-        }
-    }
+    let kind = Alphabet::try_from(first)?;
+    let row = describe_as(heap, kind, second)?;
+    Ok(Report { kind, row })
 }
 
 impl fmt::Display for Row {
@@ -126,14 +114,6 @@ impl fmt::Display for Row {
 
 impl fmt::Display for Report {
     fn fmt<W: fmt::Write>(&self, f: &mut fmt::Formatter<W>) -> fmt::Result {
-        match self {
-            Report::Described(name, row) => write!(f, "kind: {name}\n{row}"),
-            Report::Refused(e) => {
-                let number = e.refusal.number();
-                let before = e.before;
-                write!(f, "refused {number} at {before}")
-            }
-            Report::UnknownKind => write!(f, "the first line must be letters or tiles"),
-        }
+        write!(f, "kind: {}\n{}", self.kind, self.row)
     }
 }

@@ -109,8 +109,11 @@ mod tests {
             (b"", "the first line must be letters or tiles"),
         ];
         for (input, said) in cases {
-            let report = report_row(heap, input);
-            assert_eq!(rt; format!(in heap; "{report}")?.as_str(), said);
+            let printed = match report_row(heap, input) {
+                Ok(report) => format!(in heap; "{report}")?,
+                Err(e) => format!(in heap; "{e}")?,
+            };
+            assert_eq!(rt; printed.as_str(), said);
         }
         Ok(())
     }
