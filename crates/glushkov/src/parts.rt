@@ -7,7 +7,7 @@ use crate::data::Part;
 use crate::joins::{either, one};
 use bits::Set64;
 use grammar::Times;
-use tables::{CROSS, NEXT, WITHIN};
+use tables::Link;
 
 // An empty branch.
 pub(crate) fn no_place(offset: usize) -> Part
@@ -67,10 +67,10 @@ pub(crate) fn in_choice(a: &Part, b: &Part) -> Part
 }
 
 // The link of a meeting: within inside a counted repeat's body, else cross.
-pub(crate) fn meeting_link(inside: bool) -> u8
+pub(crate) fn meeting_link(inside: bool) -> Link
     ensures { result ≡ meeting inside }
 {
-    if inside { WITHIN } else { CROSS }
+    if inside { Link::Within } else { Link::Cross }
 }
 
 // Whether a repeat's body lies inside a counted repeat.
@@ -83,14 +83,14 @@ pub(crate) fn inside_body(times: Times, inside: bool) -> bool
     }
 }
 
-// The link from each last of a repeat's body to each first.
-pub(crate) fn link_again(times: Times, inside: bool) -> u8
+// The link from each last of a repeat's body to each first, if there is one.
+pub(crate) fn link_again(times: Times, inside: bool) -> Option<Link>
     ensures { result ≡ again times inside }
 {
     match times {
-        Times::Star | Times::Plus => meeting_link(inside),
-        Times::Opt => 0,
-        Times::Counted(_, _) => NEXT,
+        Times::Star | Times::Plus => Some(meeting_link(inside)),
+        Times::Opt => None,
+        Times::Counted(_, _) => Some(Link::Next),
     }
 }
 

@@ -6,8 +6,9 @@ use Rattle.bits.specs.Members.{member}
 use Rattle.bits.specs.declared.set.Set64.{Set64}
 use Rattle.bits.proofs.Laws.{bit_zero}
 use Rattle.bits.proofs.Members.{member_past}
+use Rattle.tables.specs.declared.links.Links.{Links}
 use Rattle.tables.specs.declared.table.LinkRow.{LinkRow}
-use Rattle.tables.specs.Masks.{no_row, no_set, mask_at, has_place}
+use Rattle.tables.specs.Masks.{no_links, no_row, no_set, mask_in, mask_at, has_place}
 
 -- What holds of an element and of the default holds wherever a list of it is read.
 pub read_replicate : {A : Type 0} (P : A → Type 0) (n : ℕ) (x d : A) → P x → P d → (i : ℕ) → P (get_or (replicate n x) i d)
@@ -25,5 +26,5 @@ has_place_past s p h = let m : member s (p - 1) ≡ false = member_past s (p - 1
 
 -- No links from or to a number that is no place.
 pub mask_past : (rows : List LinkRow) (p q : ℕ) → length rows ≡ 65 → (65 ≤ p) ⊎ (65 ≤ q) → mask_at rows p q ≡ 0
-mask_past rows p q l (inl h) = ap (λ (r : LinkRow). get_or r.masks q 0) (get_or_past rows p no_row (omega arith)) ∙ read_replicate (λ (v : ℕ). v ≡ 0) 65 0 0 refl refl q
-mask_past rows p q l (inr h) = let e = (get_or rows p no_row).long in get_or_past (get_or rows p no_row).masks q 0 (omega arith)
+mask_past rows p q l (inl h) = ap (λ (r : LinkRow). mask_in r q) (get_or_past rows p no_row (omega arith)) ∙ read_replicate (λ (v : Links). v.mask ≡ 0) 65 no_links no_links refl refl q
+mask_past rows p q l (inr h) = let e = (get_or rows p no_row).long in ap (λ (v : Links). v.mask) (get_or_past (get_or rows p no_row).to q no_links (omega arith))

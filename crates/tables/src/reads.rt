@@ -4,6 +4,7 @@ ghost use Rattle.widths.specs.Width.{width_of};
 ghost use Rattle.tables.specs.Masks.{has_place};
 ghost use Rattle.tables.specs.Tables.{takes, links_of, low_of};
 
+use crate::links::Links;
 use crate::table::Table;
 use bits::Set64;
 
@@ -60,13 +61,13 @@ impl Table {
         if p < 65 { self.lows[p] } else { 0 }
     }
 
-    /// The mask of the links from p to q, made of `WITHIN`, `NEXT` and `CROSS`; 0 where one of them is no place.
-    pub fn links(&self, p: usize, q: usize) -> u8
-        ensures { result ≡ links_of self.now p q }
+    /// The links from p to q; none where one of them is no place.
+    pub fn links(&self, p: usize, q: usize) -> Links
+        ensures { result.mask ≡ links_of self.now p q }
     {
         if p >= 65 || q >= 65 {
-            return 0;
+            return Links::none();
         }
-        self.links[p].masks[q]
+        self.links[p].to[q]
     }
 }
