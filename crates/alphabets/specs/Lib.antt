@@ -1,1 +1,2 @@
 pub mod Alphabets
+pub mod Colours

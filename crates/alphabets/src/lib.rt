@@ -1,14 +1,19 @@
 //! The alphabets that rows and patterns are written in: letters and tiles.
 //!
 //! An `Alphabet` is read from the word that names it and prints as that word. `specs/Alphabets.antt` has the words and the unit lengths.
+//! A `Colour` is the first half of a tile. It is read from the letter that stands for it; `specs/Colours.antt` has the letters and the numbers.
 //!
 //! `Alphabet::try_from(b"tiles".as_slice())` is `Ok(Alphabet::Tiles)`, whose units have two bytes.
+//! `Colour::try_from(b'G')` is `Ok(Colour::Green)`, which has number 1.
 
 #![tactic(auto)]
 
 ghost use Rattle.std.specs.Prelude.{◌≡◌, ◌≤◌};
 ghost use Rattle.alphabets.specs.Alphabets.{Names, unit_of};
 
+mod colours;
+
+pub use colours::{Colour, UnknownColour};
 use std::fmt;
 use thiserror::Error;
 
