@@ -2,6 +2,7 @@ ghost use Rattle.symbols.specs.Tiles.{is_tile, tile_code, tile_of, tile_spelled}
 ghost use Rattle.std.proofs.Common.{rules};
 
 use crate::kind::Kind;
+use alphabets::Colour;
 use refusals::Refusal;
 
 /// A tile: a colour from 0 to 3, written `R`, `G`, `B` or `Y`, and a face from 0 to 9, written as a digit.
@@ -72,33 +73,22 @@ impl Kind for Tiles {
     }
 
     fn spell(s: Tile) -> Result<[u8; 2], Refusal> {
-        if s.colour < 4 && s.face < 10 {
-            let c = match s.colour {
-                0 => b'R',
-                1 => b'G',
-                2 => b'B',
-                _ => b'Y',
-            };
-            Ok([c, b'0' + s.face])
-        } else {
-            Err(Refusal::Symbol)
+        match Colour::numbered(s.colour) {
+            Some(colour) if s.face < 10 => Ok([colour.letter(), b'0' + s.face]),
+            _ => Err(Refusal::Symbol),
         }
     }
 
     fn unspell(u: &[u8]) -> Result<Tile, Refusal> {
-        let [c, f @ b'0'..=b'9'] = u else {
+        let [letter, face @ b'0'..=b'9'] = u else {
             return Err(Refusal::Symbol);
         };
-        let colour = match *c {
-            b'R' => 0,
-            b'G' => 1,
-            b'B' => 2,
-            b'Y' => 3,
-            _ => return Err(Refusal::Symbol),
-        };
-        Ok(Tile {
-            colour,
-            face: *f - b'0',
-        })
+        match Colour::try_from(*letter) {
+            Ok(colour) => Ok(Tile {
+                colour: colour.number(),
+                face: *face - b'0',
+            }),
+            Err(_) => Err(Refusal::Symbol),
+        }
     }
 }
