@@ -1,4 +1,2 @@
-mod MaskBits
 mod CountsUsed
 mod PlaceTold
-mod StartsJoined

@@ -9,8 +9,8 @@ ghost use Rattle.descriptions.specs.Told.{EachTold};
 use crate::data::{Description, Place};
 use crate::places::{counts_used, places_at};
 use crate::starts::push_starts;
-use glushkov::table_of;
 use alphabets::Alphabet;
+use glushkov::table_of;
 use grammar::Node;
 use refusals::Refusal;
 use std::alloc::{AllocError, Global};
@@ -44,9 +44,7 @@ fn describe_tree<'a>(
     let Some(table) = table_of(node) else {
         unreachable()
     };
-    let Ok(places) = places_of(heap, kind, node, &table) else {
-        return Err(Refusal::Memory);
-    };
+    let places = places_of(heap, kind, node, &table)?;
     let counts = counts_used(&table);
     Ok(Description {
         pattern,

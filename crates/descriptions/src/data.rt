@@ -1,5 +1,5 @@
-use bits::Set64;
 use alphabets::Alphabet;
+use bits::Set64;
 use tables::Table;
 
 /// What is told of a place.

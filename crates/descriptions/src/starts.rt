@@ -11,19 +11,8 @@ pub(crate) fn push_starts(node: &Node, out: &mut Vec<usize>) -> Result<(), Alloc
 {
     match node {
         Node::Empty => Ok(()),
-        Node::Leaf(at, _) => {
-            out.push(*at)?;
-            Ok(())
-        }
-        Node::Class(at, _, _) => {
-            out.push(*at)?;
-            Ok(())
-        }
-        Node::Cat(a, b) => {
-            push_starts(a, out)?;
-            push_starts(b, out)
-        }
-        Node::Alt(a, b) => {
+        Node::Leaf(at, _) | Node::Class(at, _, _) => Ok(out.push(*at)?),
+        Node::Cat(a, b) | Node::Alt(a, b) => {
             push_starts(a, out)?;
             push_starts(b, out)
         }
