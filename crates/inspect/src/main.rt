@@ -7,7 +7,9 @@ use pattern_report::report_pattern;
 
 fn main(rt: HostRuntime) -> anyhow::Result<()> {
     let bytes = read_input(rt.alloc(), rt.stdin())?;
-    let report = report_pattern(rt.alloc(), bytes.as_slice());
-    println!(rt; "{report}")?;
+    match report_pattern(rt.alloc(), bytes.as_slice()) {
+        Ok(report) => println!(rt; "{report}")?,
+        Err(e) => println!(rt; "{e}")?,
+    }
     Ok(())
 }
