@@ -2,7 +2,7 @@
 use Rattle.std.proofs.Common.{◌≡◌, ℕ, ◌<◌, ◌≤◌, ◌⊎◌, List, [], ◌∷◌, ◌++◌, length, get_or, take, Some, None, Err, Option, sym, refl, ap, ◌∙◌, subst, inl, inr, arith}
 use Rattle.refusals.specs.declared.Refusal.{Refusal}
 use Rattle.refusals.specs.declared.Refusal.TheVariants.{Length, Byte, End, Range, Empty, Bounds, Nested, Places, Counts, Symbol, Work, Code, Full, Complete, Stuck, Memory}
-use Rattle.refusals.specs.Numbering.{number_of, place_of}
+use Rattle.refusals.specs.Numbering.{place_of}
 use Rattle.alphabets.specs.declared.Alphabet.TheVariants.{Letters}
 use Rattle.syntax.specs.Refuses.{Refuses, Applies}
 use Rattle.plans.specs.Plans.{RefusedText}
@@ -18,7 +18,7 @@ use Rattle.sessions.specs.Sessions.{Did}
 use Rattle.sessions.specs.Runs.{Run, done, then, RightAt, EveryRun}
 use Rattle.sessions.proofs.RowsLaid.{row_laid}
 use Rattle.par_report.specs.Pars.{RowRefused, Judged}
-use Rattle.par_report.specs.declared.data.Par.TheVariants.{Refused}
+use Rattle.par_report.specs.declared.data.ParError.TheVariants.{Refused}
 use Rattle.par_report.proofs.NeverFull.{only_no_symbol}
 
 -- the last call of a run
@@ -38,13 +38,13 @@ right_laid text row s t right run = subst (λ r. RightAt letters bits text r t) 
 -- a row with a letter that was refused
 pub refused_laid :
     (text row : List ℕ) (n : ℕ) (e : Refusal) (s t : Session LettersType BitBank) → EveryRun letters bits text s → n < length row
-    → ((x : ℕ) → Run letters bits s (laid_all (take n row) ++ (Laid (get_or row n x) (Err e) ∷ [])) t) → RowRefused text row (number_of e) n
+    → ((x : ℕ) → Run letters bits s (laid_all (take n row) ++ (Laid (get_or row n x) (Err e) ∷ [])) t) → RowRefused text row e n
 refused_laid text row n e s t right less run =
     let (u, before, last) = run_last letters bits (laid_all (take n row)) (Laid (get_or row n 0) (Err e)) s t (run 0) in
     let here = (right_laid text (take n row) s u right before).front_right in
     let (is, none) = only_no_symbol letters u t (get_or row n 0) e here.ready last in (
       (here.plan_of.tree, here.plan_of.accepted),
-      ap number_of is,
+      is,
       (
         less,
         here.symbols,
@@ -55,15 +55,15 @@ refused_laid text row n e s t right less run =
     )
 
 -- a refusal of a text has a place, or is want of memory
-pub refused_placed : (text row : List ℕ) (e : Refusal) (p : ℕ) → RefusedText Letters text e → place_of e ≡ Some p → Judged text row (Refused (number_of e) p)
+pub refused_placed : (text row : List ℕ) (e : Refusal) (p : ℕ) → RefusedText Letters text e → place_of e ≡ Some p → Judged text row (Err (Refused e p))
 refused_placed text row e p refused is = told refused.why
   where
-    told : ((e ≡ Memory) × (length text ≤ 512)) ⊎ (Refuses Letters text e × ((q : Refusal) → Refuses Letters text q → q ≡ e)) → Judged text row (Refused (number_of e) p)
+    told : ((e ≡ Memory) × (length text ≤ 512)) ⊎ (Refuses Letters text e × ((q : Refusal) → Refuses Letters text q → q ≡ e)) → Judged text row (Err (Refused e p))
     told (inl (memory, short)) = absurd (none_some (sym (ap place_of memory) ∙ is))
       where
         none_some : ◌≡◌ {A = Option ℕ} None (Some p) → ⊥
         none_some x = let z : ◌≡◌ {A = ℕ} 0 1 = cc in omega arith
-    told (inr (why, once)) = inl (e, why, refl, is)
+    told (inr (why, once)) = inl (why, is)
 
 pub refused_unplaced : (text : List ℕ) (e : Refusal) → RefusedText Letters text e → place_of e ≡ None → length text ≤ 512
 refused_unplaced text e refused is = told refused.why
