@@ -11,19 +11,23 @@ use crate::joins::join_row;
 use crate::links::link;
 use bits::Set64;
 use grammar::Node;
-use tables::{Link, LinkRow, Links, Table};
+use tables::{Link, LinkRow, Links, Place, Table};
 use widths::Widths;
 
 // No place but the start, which has width 1 and low 1.
 fn fresh_counts() -> Counts
     ensures { FreshCounts result }
 {
-    let mut ones = [0; 65];
-    ones[0] = 1;
+    let mut each = [Place {
+        codes: Set64::empty(),
+        low: 0,
+    }; 65];
+    each[0].low = 1;
+    let mut widths = [0; 65];
+    widths[0] = 1;
     Counts {
-        sets: [Set64::empty(); 65],
-        widths: ones,
-        lows: ones,
+        each,
+        widths,
     }
 }
 
@@ -59,9 +63,8 @@ fn fill_table(node: &Node, places: usize) -> Option<Table>
         places,
         nullable: part.nullable,
         lasts: part.lasts,
-        sets: counts.sets,
+        each: counts.each,
         widths,
-        lows: counts.lows,
         links,
     })
 }
