@@ -1,9 +1,8 @@
-ghost use Rattle.std.specs.Prelude.{◌≡◌, ℕ, ◌≤◌, MatchOption};
+ghost use Rattle.std.specs.Prelude.{◌≡◌, ◌≤◌, MatchOption};
 ghost use Rattle.automata.specs.Places.{size};
 ghost use Rattle.glushkov.specs.Nodes.{tree_in};
 ghost use Rattle.glushkov.specs.Passes.{FreshCounts, FreshRows};
 ghost use Rattle.tables.specs.Tables.{Roomy, TableOf};
-ghost use Rattle.tables.specs.Masks.{mask_in};
 
 use crate::counts::{count, fill};
 use crate::data::Counts;
@@ -11,36 +10,30 @@ use crate::joins::join_row;
 use crate::links::link;
 use bits::Set64;
 use grammar::Node;
-use tables::{Link, LinkRow, Links, Table};
+use tables::{Link, LinkRow, Links, Place, Table};
 use widths::Widths;
 
 // No place but the start, which has width 1 and low 1.
 fn fresh_counts() -> Counts
     ensures { FreshCounts result }
 {
-    let mut ones = [0; 65];
-    ones[0] = 1;
-    Counts {
-        sets: [Set64::empty(); 65],
-        widths: ones,
-        lows: ones,
-    }
-}
-
-// A row without links.
-fn no_links() -> LinkRow
-    ensures { (q : ℕ) → mask_in result q ≡ 0 }
-{
-    LinkRow {
-        to: [Links::none(); 65],
-    }
+    let mut each = [Place {
+        codes: Set64::empty(),
+        low: 0,
+    }; 65];
+    each[0].low = 1;
+    let mut widths = [0; 65];
+    widths[0] = 1;
+    Counts { each, widths }
 }
 
 // No links.
 fn fresh_rows() -> [LinkRow; 65]
     ensures { FreshRows result }
 {
-    [no_links(); 65]
+    [LinkRow {
+        to: [Links::none(); 65],
+    }; 65]
 }
 
 // The table of a tree of so many places, or `None` where its widths break the rules of `Widths`.
@@ -59,9 +52,8 @@ fn fill_table(node: &Node, places: usize) -> Option<Table>
         places,
         nullable: part.nullable,
         lasts: part.lasts,
-        sets: counts.sets,
+        each: counts.each,
         widths,
-        lows: counts.lows,
         links,
     })
 }

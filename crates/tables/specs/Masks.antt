@@ -7,7 +7,9 @@ use Rattle.bits.specs.Members.{member}
 use Rattle.tables.specs.declared.links.Link.{Link}
 use Rattle.tables.specs.declared.links.Link.TheVariants.{Within, Next, Cross}
 use Rattle.tables.specs.declared.links.Links.{Links}
+use Rattle.tables.specs.declared.places.PlaceSet.{PlaceSet}
 use Rattle.tables.specs.declared.table.LinkRow.{LinkRow}
+use Rattle.tables.specs.declared.table.Place.{Place}
 
 -- No links, and a row without links.
 abbrev pub no_links : Links
@@ -19,6 +21,10 @@ no_row = record { to = replicate 65 no_links; long = refl }
 -- A set without codes.
 abbrev pub no_set : Set64
 no_set = record { bits = 0; small = lit< tt }
+
+-- A number that is no place: it takes nothing.
+abbrev pub no_place : Place
+no_place = record { codes = no_set; low = 0 }
 
 -- The mask of the links from a row's place to q, and from p to q.
 abbrev pub mask_in : LinkRow → ℕ → ℕ
@@ -50,8 +56,8 @@ mask_of Next = 2
 mask_of Cross = 4
 
 -- The place p, which is 1 or more, is in the set: its number less one is a member.
-abbrev pub has_place : Set64 → ℕ → Bool
-has_place s p = nat_lt 0 p && member s (p - 1)
+abbrev pub has_place : PlaceSet → ℕ → Bool
+has_place s p = nat_lt 0 p && member s.numbers (p - 1)
 
 -- The mask x, with the links of m too where b holds.
 abbrev pub joined : Bool → ℕ → ℕ → ℕ

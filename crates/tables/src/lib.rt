@@ -10,9 +10,10 @@
 #![tactic(auto)]
 
 mod links;
+mod places;
 mod reads;
 mod table;
 
 pub use links::{Link, Links};
-pub use reads::is_in;
-pub use table::{LinkRow, Table};
+pub use places::PlaceSet;
+pub use table::{LinkRow, Place, Table};

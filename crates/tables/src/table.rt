@@ -1,6 +1,7 @@
 ghost use Rattle.std.specs.Prelude.{◌≡◌, ◌≤◌, length};
 
 use crate::links::Links;
+use crate::places::PlaceSet;
 use bits::Set64;
 use widths::Widths;
 
@@ -11,18 +12,24 @@ pub struct LinkRow {
     ghost long: { length to ≡ 65 },
 }
 
+/// What a place takes, and the low of its counted repeat.
+#[derive(Clone, Copy)]
+pub struct Place {
+    pub codes: Set64,
+    pub low: u16,
+}
+
 /// The places of a pattern, what each one takes, and the links between them. Place 0 is the start.
 #[derive(Clone, Copy)]
 pub struct Table {
     pub places: usize,
     pub nullable: bool,
-    pub lasts: Set64,
-    pub sets: [Set64; 65],
+    pub lasts: PlaceSet,
+    pub each: [Place; 65],
     pub widths: Widths,
-    pub lows: [u16; 65],
     pub links: [LinkRow; 65],
     ghost few: { places ≤ 64 },
-    ghost full: { length sets ≡ 65 },
+    ghost full: { length each ≡ 65 },
     ghost square: { length links ≡ 65 },
 }
 
