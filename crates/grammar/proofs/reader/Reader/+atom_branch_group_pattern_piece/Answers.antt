@@ -2,22 +2,16 @@
 use Rattle.std.proofs.Common.{◌≡◌, ◌+◌, length, get_or, sym, refl, ap, ◌∙◌, subst, arith, true-eqb, false-eqb}
 use Rattle.std.proofs.lemmas.List.{get_or_default}
 use Rattle.bits.specs.Members.{member}
-use Rattle.grammar.specs.Codes.{LetterUnit, codes_of_letter}
+use Rattle.grammar.specs.Codes.{codes_of_letter}
 use Rattle.grammar.specs.Ast as ast
 use Rattle.grammar.specs.Grammar.{byte, OneUnit, Atom, letter, last, more, none, then, once, often, one_unit, group}
 use Rattle.grammar.specs.Reading.{Stops, Anything}
 use Rattle.grammar.specs.Nodes.{ast_of}
 use Rattle.grammar.proofs.Exits.{exit}
-use Rattle.grammar.proofs.Texts.{within}
-use Rattle.grammar.proofs.Roles.{goes_on, goes_on_inside, no_second, inside, no_opening, no_letter, no_colour, no_bar}
+use Rattle.grammar.proofs.Roles.{goes_on, no_second, inside, no_opening, no_letter, no_colour, no_bar}
 use Rattle.grammar.proofs.UnitStops.{unit_stops_first}
 use Rattle.grammar.proofs.PatternStops.{piece_stops_in_atom, piece_stops_in_quantifier, piece_stops_at_second, atom_stops_in_unit, atom_stops_in_group, group_stops_at_end, pattern_stops_in_branch, pattern_stops_after_bar, branch_stops_in_piece, branch_stops_after_piece}
 use Rattle.grammar.proofs.reader.Reader.+atom_branch_group_pattern_piece.Goals as goal
-
-pub branch-piece-requires : goal.branch-piece-requires
-branch-piece-requires t c =
-    let l = goes_on_inside c.args.self.now.unit c.args.self.now.text.now c.args.at c.role.result c.role.ensures c.in_default.not-Stop in
-    (omega arith, l)
 
 pub branch-returns-in_err-first-in_default : goal.branch-returns-in_err-first-in_default
 branch-returns-in_err-first-in_default t c =
@@ -78,14 +72,6 @@ group-returns-in_default t c =
 pub pattern-returns-in_err-first : goal.pattern-returns-in_err-first
 pattern-returns-in_err-first t c =
     exit ast_of c.args.at pattern_stops_in_branch c.from_residual.result c.in_err-first.field-0.0 c.from_residual.ensures.1 c.in_err-first.ensures
-
-pub pattern-pattern-requires : goal.pattern-pattern-requires
-pattern-pattern-requires t c =
-    let s = c.args.self.now.text.now in
-    let r = c.in_ok-first.ensures in
-    let x = true-eqb (byte s c.in_ok-first.p) 124 c.if-next_is.ensures in
-    let l = within s c.in_ok-first.p (omega arith) in
-    (omega arith, omega arith)
 
 pub pattern-returns-in_err-rest : goal.pattern-returns-in_err-rest
 pattern-returns-in_err-rest t c =
@@ -153,12 +139,6 @@ piece-returns-in_default t c =
       derives = once a.derives;
       after = no_second c.args.self.now.unit (byte s c.in_ok-body.p) c.role.result c.role.ensures c.in_default.not-Quantifier;
     }
-
-pub atom-letter_codes-requires : goal.atom-letter_codes-requires
-atom-letter_codes-requires t c =
-    let s = c.args.self.now.text.now in
-    let e = get_or_default s c.args.at 0 256 c.requires in
-    subst LetterUnit (sym e) c.in-Letter.ensures.1
 
 pub atom-returns-in_err-codes-in-Tile : goal.atom-returns-in_err-codes-in-Tile
 atom-returns-in_err-codes-in-Tile t c =

@@ -28,14 +28,6 @@ returns-then-next_is c =
       after = tt;
     }
 
-pub number-requires-2 : goal.number-requires-2
-number-requires-2 c =
-    let s = c.args.self.now.text.now in
-    let a = c.in_ok-low.ensures in
-    let x = comma a.after (false-eqb (byte s c.in_ok-low.p) 125 c.if-next_is.ensures) in
-    let l = within s c.in_ok-low.p (omega arith) in
-    omega arith
-
 pub returns-in_err-high : goal.returns-in_err-high
 returns-in_err-high c =
     let s = c.args.self.now.text.now in

@@ -12,13 +12,6 @@ use Rattle.grammar.proofs.Spelling.{other_codes_lem}
 use Rattle.grammar.proofs.ClassStops.{class_stops_in_body, class_stops_in_other_body}
 use Rattle.grammar.proofs.reader.Reader.class.Goals as goal
 
-pub body-requires : goal.body-requires
-body-requires c =
-    let s = c.args.self.now.text.now in
-    let x = true-eqb (byte s (c.args.at + 1)) 94 c.if-next_is.ensures in
-    let l = within s (c.args.at + 1) (omega arith) in
-    omega arith
-
 pub returns-in_err-codes : goal.returns-in_err-codes
 returns-in_err-codes c =
     let s = c.args.self.now.text.now in
