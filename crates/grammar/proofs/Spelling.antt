@@ -49,12 +49,12 @@ one_tile c f v k n e l h =
     grind (arith, nat_tests)
 
 -- a colour's letter stands for its number
-pub colour_lem : (c : Colour) → (letter_of c ≡ 46 → ⊥) × (number_of c ≡ colour_of (letter_of c))
+pub colour_lem : (c : Colour) → (letter_of c ≡ 46 → ⊥) × (number_of c ≡ colour_of (letter_of c)) × (number_of c < 4)
 unfolding colour_of
-colour_lem Red = (λ e. omega arith, refl)
-colour_lem Green = (λ e. omega arith, refl)
-colour_lem Blue = (λ e. omega arith, refl)
-colour_lem Yellow = (λ e. omega arith, refl)
+colour_lem Red = (λ e. omega arith, refl, omega arith)
+colour_lem Green = (λ e. omega arith, refl, omega arith)
+colour_lem Blue = (λ e. omega arith, refl, omega arith)
+colour_lem Yellow = (λ e. omega arith, refl, omega arith)
 
 -- a unit of letters that is no `.` is a letter
 pub not_dot : {c : ℕ} → LetterUnit c → (c ≡ 46 → ⊥) → Letter c
