@@ -1,9 +1,11 @@
 -- The codes of one more item of a class body, and of all items so far.
 use Rattle.std.proofs.Common.{◌≡◌, ℕ, ◌+◌, ◌-◌, ◌*◌, ◌<◌, ◌≤◌, Bool, true, false, cond, not, ◌&&◌, ◌||◌, eqb, ltb, leb, List, [], ◌++◌, is_ok, IfOk, Ok, Err, Result, sym, refl, ap, ◌∙◌, subst, arith}
 use Rattle.std.proofs.lemmas.Bool.Decides.{nat_tests}
-use Rattle.grammar.specs.Codes.{Codes, Digit, no_codes, colour_of, codes_of_letter, codes_of_tile, codes_of_range, joined_codes}
+use Rattle.grammar.specs.Codes.{Codes, no_codes, codes_of_letter, codes_of_tile, codes_of_range, joined_codes}
 use Rattle.grammar.specs.Grammar.{nothing}
-use Rattle.grammar.proofs.Spelling.{one_colour, one_tile}
+use Rattle.alphabets.specs.Colours.{letter_of, number_of}
+use Rattle.alphabets.specs.declared.colours.Colour.{Colour}
+use Rattle.grammar.proofs.Spelling.{one_colour, one_tile, colour_lem}
 use Rattle.class_bodies.specs.ClassBody.{SpellsCodes, SpellsMore}
 
 -- Tests that agree everywhere serve alike.
@@ -61,18 +63,20 @@ just_codes f c = or_none (f c) where
   or_none false = refl
 
 -- One tile.
-pub codes_of_tile_lem : (letter colour face c : ℕ) → 46 < letter → colour_of letter ≡ colour → colour < 4 → face < 10 → codes_of_tile letter (48 + face) c ≡ eqb c (10 * colour + face)
-codes_of_tile_lem letter colour face c l e h k =
-    let d : Digit (48 + face) = (omega arith, omega arith) in
-    let x = one_tile letter (48 + face) colour c (λ z. omega arith) (sym e) h d in
-    let f : 48 + face - 48 ≡ face = omega arith in
-    sym x ∙ (let y : (eqb c (10 * colour + (48 + face - 48)) && ltb c 64) ≡ eqb c (10 * colour + face) = grind (arith, nat_tests) in y)
+pub codes_of_tile_lem : (colour : Colour) (face c : ℕ) → face < 10 → codes_of_tile (letter_of colour) (48 + face) c ≡ eqb c (10 * number_of colour + face)
+codes_of_tile_lem colour face c k =
+    let l = colour_lem colour in
+    let below = l.2 in
+    sym (one_tile (letter_of colour) face (number_of colour) c l.0 l.1 l.2 k)
+    ∙ (let y : (eqb c (10 * number_of colour + face) && ltb c 64) ≡ eqb c (10 * number_of colour + face) = grind (arith, nat_tests) in y)
 
 -- All tiles of a colour.
-pub colour_codes : (letter colour c : ℕ) → 46 < letter → colour_of letter ≡ colour → colour < 4 → codes_of_tile letter 46 c ≡ (leb (10 * colour) c && ltb c (10 * colour + 10))
-colour_codes letter colour c l e h =
-    sym (one_colour letter colour c (λ z. omega arith) (sym e) h)
-    ∙ (let y : ((leb (10 * colour) c && leb c (10 * colour + 9)) && ltb c 64) ≡ (leb (10 * colour) c && ltb c (10 * colour + 10)) = grind (arith, nat_tests) in y)
+pub colour_codes : (colour : Colour) (c : ℕ) → codes_of_tile (letter_of colour) 46 c ≡ (leb (10 * number_of colour) c && ltb c (10 * number_of colour + 10))
+colour_codes colour c =
+    let l = colour_lem colour in
+    let below = l.2 in
+    sym (one_colour (letter_of colour) (number_of colour) c l.0 l.1 l.2)
+    ∙ (let y : ((leb (10 * number_of colour) c && leb c (10 * number_of colour + 9)) && ltb c 64) ≡ (leb (10 * number_of colour) c && ltb c (10 * number_of colour + 10)) = grind (arith, nat_tests) in y)
 
 -- The faces so far, and one more where it is in the set or not.
 pub face_codes : (b : Bool) (c first face : ℕ) → (c ≡ first + face → b ≡ true)

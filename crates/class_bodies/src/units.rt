@@ -1,11 +1,12 @@
 ghost use Rattle.std.specs.Prelude.{◌≡◌, ℕ, ◌+◌, ◌*◌, ◌<◌, ◌≤◌, true, false, ◌&&◌, IfOk, OnOk, nat_le, nat_lt};
 ghost use Rattle.bits.specs.Members.{member};
-ghost use Rattle.grammar.specs.Codes.{ColourUnit, FaceUnit, colour_of, codes_of, codes_of_tile};
+ghost use Rattle.grammar.specs.Codes.{FaceUnit, codes_of, codes_of_tile};
 ghost use Rattle.alphabets.specs.Alphabets.{unit_of};
+ghost use Rattle.alphabets.specs.Colours.{letter_of, number_of};
 ghost use Rattle.class_bodies.specs.ClassBody.{SpellsCodes, SpellsMore};
 
+use alphabets::{Alphabet, Colour};
 use bits::Set64;
-use alphabets::Alphabet;
 use std::alloc::{AllocError, Global};
 
 // The first number from `low` on that is not in the set, or 26 where all numbers from `low` to 25 are.
@@ -15,12 +16,7 @@ fn run_end(codes: Set64, low: u8) -> u8
     ensures before { (c : ℕ) → low ≤ c → c < result → member codes c ≡ true }
     ensures here { result < 26 → member codes result ≡ false }
 {
-    for c in low..26 {
-        if !codes.has(c) {
-            return c;
-        }
-    }
-    26
+    (low..26).find(|c| !codes.has(*c)).unwrap_or(26)
 }
 
 // Appends the letters whose codes begin at `low` and end before `end`: none, one letter, or a range.
@@ -28,15 +24,10 @@ fn push_run(body: &mut Vec<u8>, low: u8, end: u8) -> Result<(), AllocError>
     requires { (low ≤ end) × (end ≤ 26) }
     ensures { OnOk result (SpellsMore 1 body.old.items body.new.items (λ c. nat_le low c && nat_lt c end)) }
 {
-    if low == end {
-        return Ok(());
-    }
-    let first = b'a' + low;
-    let last = b'a' + (end - 1);
-    if first == last {
-        body.extend_from_slice(&[first])
-    } else {
-        body.extend_from_slice(&[first, b'-', last])
+    match end - low {
+        0 => Ok(()),
+        1 => body.extend_from_slice(&[b'a' + low]),
+        _ => body.extend_from_slice(&[b'a' + low, b'-', b'a' + (end - 1)]),
     }
 }
 
@@ -46,6 +37,7 @@ fn letters_body(heap: Global, codes: Set64) -> Result<Vec<u8>, AllocError>
 {
     let mut body = Vec::new(heap);
     let mut low = 0;
+    // By hand: a run begins where the one before it ended.
     while low < 26 {
         let end = run_end(codes, low);
         push_run(&mut body, low, end)?;
@@ -55,48 +47,34 @@ fn letters_body(heap: Global, codes: Set64) -> Result<Vec<u8>, AllocError>
 }
 
 // Appends a tile's unit.
-fn push_tile(body: &mut Vec<u8>, colour: u8, face: u8) -> Result<(), AllocError>
-    requires { ColourUnit colour × FaceUnit face }
-    ensures { OnOk result (SpellsMore 2 body.old.items body.new.items (codes_of_tile colour face)) }
+fn push_tile(body: &mut Vec<u8>, colour: Colour, face: u8) -> Result<(), AllocError>
+    requires { FaceUnit face }
+    ensures { OnOk result (SpellsMore 2 body.old.items body.new.items (codes_of_tile (letter_of colour) face)) }
 {
-    body.extend_from_slice(&[colour, face])
-}
-
-// The letter of a colour.
-fn colour_letter(colour: u8) -> u8
-    requires { colour < 4 }
-    ensures { ColourUnit result × (colour_of result ≡ colour) × (46 < result) }
-{
-    match colour {
-        0 => b'R',
-        1 => b'G',
-        2 => b'B',
-        _ => b'Y',
-    }
+    body.extend_from_slice(&[colour.letter(), face])
 }
 
 // Appends the tiles of one colour that these codes have, each by itself.
-fn push_faces(body: &mut Vec<u8>, codes: Set64, colour: u8) -> Result<(), AllocError>
-    requires { colour < 4 }
-    ensures { OnOk result (SpellsMore 2 body.old.items body.new.items (λ c. member codes c && (nat_le (10 * colour) c && nat_lt c (10 * colour + 10)))) }
+fn push_faces(body: &mut Vec<u8>, codes: Set64, colour: Colour) -> Result<(), AllocError>
+    ensures { OnOk result (SpellsMore 2 body.old.items body.new.items (λ c. member codes c && (nat_le (10 * number_of colour) c && nat_lt c (10 * number_of colour + 10)))) }
 {
-    let letter = colour_letter(colour);
+    let first = 10 * colour.number();
     for face in 0..10 {
-        if codes.has(10 * colour + face) {
-            push_tile(body, letter, b'0' + face)?;
+        if codes.has(first + face) {
+            push_tile(body, colour, b'0' + face)?;
         }
     }
     Ok(())
 }
 
 // Appends the tiles of one colour that these codes have: all ten at once, or each by itself.
-fn push_colour(body: &mut Vec<u8>, codes: Set64, colour: u8) -> Result<(), AllocError>
-    requires { colour < 4 }
-    ensures { OnOk result (SpellsMore 2 body.old.items body.new.items (λ c. member codes c && (nat_le (10 * colour) c && nat_lt c (10 * colour + 10)))) }
+fn push_colour(body: &mut Vec<u8>, codes: Set64, colour: Colour) -> Result<(), AllocError>
+    ensures { OnOk result (SpellsMore 2 body.old.items body.new.items (λ c. member codes c && (nat_le (10 * number_of colour) c && nat_lt c (10 * number_of colour + 10)))) }
 {
-    let all = Set64::span(10 * colour, 10 * colour + 9);
+    let first = 10 * colour.number();
+    let all = Set64::span(first, first + 9);
     if all.difference(codes).is_empty() {
-        push_tile(body, colour_letter(colour), b'.')
+        push_tile(body, colour, b'.')
     } else {
         push_faces(body, codes, colour)
     }
@@ -107,7 +85,7 @@ fn tiles_body(heap: Global, codes: Set64) -> Result<Vec<u8>, AllocError>
     ensures { IfOk result (λ v. SpellsCodes 2 v.items (λ c. member codes c && nat_lt c 40)) }
 {
     let mut body = Vec::new(heap);
-    for colour in 0..4 {
+    for colour in [Colour::Red, Colour::Green, Colour::Blue, Colour::Yellow] {
         push_colour(&mut body, codes, colour)?;
     }
     Ok(body)

@@ -29,9 +29,13 @@ handed f Full h = h
 handed f Complete h = h
 handed f Stuck h = h
 
+-- a refusal that is handed on
+pub refused : {Y V : Type 0} (Q : List ℕ → ℕ → ℕ → Y → Type 0) (G : ℕ → Type 0) (s : List ℕ) (j : ℕ) (f : V → Y) (least : ℕ) (r : Result (V × ℕ) Refusal) (e : Refusal) → IsErrAnd r (λ y. y ≡ e) → Faults Y Q G s j e → Reads V Y f Q G s least j r
+refused Q G s j f least (Ok x) e h d = absurd h
+refused {Y} Q G s j f least (Err y) e h d = subst (λ v. Faults Y Q G s j v) (sym h) d
+
 pub exit : {X Y V : Type 0} {R : List ℕ → ℕ → ℕ → X → Type 0} {Q : List ℕ → ℕ → ℕ → Y → Type 0} {F G : ℕ → Type 0} {s : List ℕ} {i j : ℕ} (f : V → Y) (least : ℕ) → ((p : ℕ) → Stops X R F s i p → Stops Y Q G s j p) → (r : Result (V × ℕ) Refusal) (e : Refusal) → IsErrAnd r (λ y. y ≡ e) → Faults X R F s i e → Reads V Y f Q G s least j r
-exit f least g (Ok x) e h d = absurd h
-exit {X} {Y} {V} {R} {Q} {F} {G} {s} {i} {j} f least g (Err y) e h d = subst (λ v. Faults Y Q G s j v) (sym h) (handed g e d)
+exit {X} {Y} {V} {R} {Q} {F} {G} {s} {i} {j} f least g r e h d = refused Q G s j f least r e h (handed g e d)
 
 told_at : (a : Alphabet) (s : List ℕ) (e : Refusal) → Faults Ast (Pattern (unit_of a)) AfterPattern s 0 e → Tells a s (Err e)
 told_at a s (Byte p) h = byte_at h.0 h.1

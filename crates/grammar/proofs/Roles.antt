@@ -1,13 +1,11 @@
 -- What follows from the meaning of a byte.
-use Rattle.std.proofs.Common.{◌≡◌, ℕ, ◌<◌, ◌≤◌, ◌⊎◌, List, length, get_or, refl, subst, inl, inr, arith, w8, Fits}
-use Rattle.std.proofs.lemmas.List.{get_or_default}
-use Rattle.std.proofs.lemmas.Bool.{cases_lt}
+use Rattle.std.proofs.Common.{◌≡◌, ℕ, ◌<◌, ◌⊎◌, List, length, refl, subst, inl, inr, arith}
 use Rattle.grammar.specs.Codes.{LetterUnit, ColourUnit}
 use Rattle.grammar.specs.Grammar.{byte}
 use Rattle.grammar.specs.Reading.{Means, QuantifierByte, AfterPattern, AfterBranch, AfterPiece}
 use Rattle.grammar.specs.declared.bytes.Role.{Role}
 use Rattle.grammar.specs.declared.bytes.Role.TheVariants.{Group, Class, Letter, Tile, Quantifier, Stop, Other}
-use Rattle.grammar.proofs.Texts.{within, past}
+use Rattle.grammar.proofs.Texts.{within}
 
 -- where a branch is not over, what stands there does not follow a branch
 pub goes_on : (u c : ℕ) (r : Role) → Means u c r → (r ≡ Stop → ⊥) → AfterBranch c → ⊥
@@ -18,10 +16,6 @@ goes_on u c Tile m n a = grind (arith, m.1)
 goes_on u c Quantifier m n a = grind arith
 goes_on u c Stop m n a = n refl
 goes_on u c Other m n a = m.5 a
-
--- and it is a byte of the text
-pub goes_on_inside : (u : ℕ) (s : List ℕ) (i : ℕ) (r : Role) → Means u (byte s i) r → (r ≡ Stop → ⊥) → i < length s
-goes_on_inside u s i r m n = elim (cases_lt i (length s)) [ inl l ↦ l | inr g ↦ absurd (goes_on u (byte s i) r m n (inl (inl (past s i g)))) ]
 
 -- what is no quantifier may follow a piece
 pub no_second : (u c : ℕ) (r : Role) → Means u c r → (r ≡ Quantifier → ⊥) → AfterPiece c
@@ -57,7 +51,3 @@ no_colour u c r m (inr (inr e)) v x = let w : Means u c Other = subst (Means u c
 -- what follows a branch and is no bar follows a pattern
 pub no_bar : {c : ℕ} → AfterBranch c → (c ≡ 124 → ⊥) → AfterPattern c
 no_bar a x = elim a [ inl p ↦ p | inr e ↦ absurd (x e) ]
-
--- what follows a pattern and is no bracket is the end of the text
-pub at_end : (s : List ℕ) (k : ℕ) → Fits w8 (get_or s k 0) → k ≤ length s → AfterPattern (byte s k) → (byte s k ≡ 41 → ⊥) → k ≡ length s
-at_end s k f l a x = elim (cases_lt k (length s)) [ inl h ↦ absurd (elim a [ inl e ↦ omega (arith, f.fits, get_or_default s k 0 256 h) | inr e ↦ x e ]) | inr h ↦ omega arith ]

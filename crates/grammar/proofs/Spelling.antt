@@ -1,9 +1,13 @@
 -- The sets that the code computes are those that units and classes spell.
-use Rattle.std.proofs.Common.{◌≡◌, ℕ, ◌+◌, ◌-◌, ◌*◌, ◌/◌, ◌%◌, ◌<◌, ◌≤◌, Bool, not, ◌&&◌, ◌||◌, eqb, ltb, leb, Some, Option, ap, ◌∙◌, inl, inr, arith}
+use Rattle.std.proofs.Common.{◌≡◌, ℕ, ◌+◌, ◌-◌, ◌*◌, ◌/◌, ◌%◌, ◌<◌, ◌≤◌, Bool, not, ◌&&◌, ◌||◌, eqb, ltb, leb, Some, None, Option, IfSome, refl, ap, ◌∙◌, inl, inr, arith}
 use Rattle.std.proofs.lemmas.Bool.{lt-ltb, le-ltb, cases_eq}
 use Rattle.std.proofs.lemmas.Bool.Decides.{nat_tests}
-use Rattle.grammar.specs.Codes.{Codes, Letter, LetterUnit, FaceUnit, Digit, colour_of, codes_of_letter, codes_of_tile, codes_of_range, codes_of}
+use Rattle.grammar.specs.Codes.{Codes, Letter, LetterUnit, ColourUnit, FaceUnit, colour_of, codes_of_letter, codes_of_tile, codes_of_range, codes_of}
 use Rattle.grammar.specs.Grammar.{back_of}
+use Rattle.grammar.specs.Reading.{colour_byte, face_byte}
+use Rattle.alphabets.specs.Colours.{letter_of, number_of}
+use Rattle.alphabets.specs.declared.colours.Colour.{Colour}
+use Rattle.alphabets.specs.declared.colours.Colour.TheVariants.{Red, Green, Blue, Yellow}
 
 pub any_letter : (k : ℕ) → ltb k 26 && ltb k 64 ≡ codes_of_letter 46 k
 unfolding codes_of_letter
@@ -30,31 +34,51 @@ one_colour c v k n e l =
     grind (arith, nat_tests)
 
 -- one face of every colour
-pub one_face : (d k : ℕ) → Digit d → ((((eqb k (d - 48) && ltb k 64) || (eqb k (d - 48 + 10) && ltb k 64)) || (eqb k (d - 48 + 20) && ltb k 64)) || (eqb k (d - 48 + 30) && ltb k 64)) ≡ codes_of_tile 46 d k
+pub one_face : (f k : ℕ) → f < 10 → ((((eqb k f && ltb k 64) || (eqb k (f + 10) && ltb k 64)) || (eqb k (f + 20) && ltb k 64)) || (eqb k (f + 30) && ltb k 64)) ≡ codes_of_tile 46 (48 + f) k
 unfolding codes_of_tile
-one_face d k h =
+one_face f k h =
     let x : k ≡ 10 * (k / 10) + k % 10 = omega arith in
     let m : k % 10 < 10 = omega arith in
-    let a = h.0 in
-    let b = h.1 in
     grind (arith, nat_tests)
 
-pub one_tile : (c d v k : ℕ) → (c ≡ 46 → ⊥) → v ≡ colour_of c → v < 4 → Digit d → eqb k (10 * v + (d - 48)) && ltb k 64 ≡ codes_of_tile c d k
+pub one_tile : (c f v k : ℕ) → (c ≡ 46 → ⊥) → v ≡ colour_of c → v < 4 → f < 10 → eqb k (10 * v + f) && ltb k 64 ≡ codes_of_tile c (48 + f) k
 unfolding codes_of_tile
-one_tile c d v k n e l h =
+one_tile c f v k n e l h =
     let x : k ≡ 10 * (k / 10) + k % 10 = omega arith in
     let m : k % 10 < 10 = omega arith in
-    let a = h.0 in
-    let b = h.1 in
     grind (arith, nat_tests)
+
+-- a colour's letter stands for its number
+pub colour_lem : (c : Colour) → (letter_of c ≡ 46 → ⊥) × (number_of c ≡ colour_of (letter_of c)) × (number_of c < 4)
+unfolding colour_of
+colour_lem Red = (λ e. omega arith, refl, omega arith)
+colour_lem Green = (λ e. omega arith, refl, omega arith)
+colour_lem Blue = (λ e. omega arith, refl, omega arith)
+colour_lem Yellow = (λ e. omega arith, refl, omega arith)
 
 -- a unit of letters that is no `.` is a letter
 pub not_dot : {c : ℕ} → LetterUnit c → (c ≡ 46 → ⊥) → Letter c
 not_dot h n = elim h [ inl e ↦ absurd (n e) | inr l ↦ l ]
 
--- a face that is no `.` is a digit
-pub not_open : {c : ℕ} → FaceUnit c → (c ≡ 46 → ⊥) → Digit c
-not_open h n = elim h [ inl e ↦ absurd (n e) | inr l ↦ l ]
+-- a byte that is neither `.` nor a colour's letter is no first half
+pub not_colour : {b : ℕ} → (b ≡ 46 → ⊥) → ((c : Colour) → b ≡ letter_of c → ⊥) → ColourUnit b → ⊥
+not_colour n m (inl e) = n e
+not_colour n m (inr (inl e)) = m Blue e
+not_colour n m (inr (inr (inl e))) = m Green e
+not_colour n m (inr (inr (inr (inl e)))) = m Red e
+not_colour n m (inr (inr (inr (inr e)))) = m Yellow e
+
+-- halves as they are written
+pub colour_unit : (c : Option Colour) → ColourUnit (colour_byte c)
+colour_unit None = inl refl
+colour_unit (Some Red) = inr (inr (inr (inl refl)))
+colour_unit (Some Green) = inr (inr (inl refl))
+colour_unit (Some Blue) = inr (inl refl)
+colour_unit (Some Yellow) = inr (inr (inr (inr refl)))
+
+pub face_unit : (f : Option ℕ) → IfSome f (λ n. n < 10) → FaceUnit (face_byte f)
+face_unit None l = inl refl
+face_unit (Some n) l = inr (omega arith, omega arith)
 
 -- the pair that a body spells, from its parts
 pub pair_is : {m m' : Codes} {r r' : Option ℕ} → m ≡ m' → r ≡ r' → ◌≡◌ {A = Codes × Option ℕ} (m, r) (m', r')

@@ -1,11 +1,12 @@
 -- Where a unit stops: at its first byte, or at the face of a tile.
-use Rattle.std.proofs.Common.{◌≡◌, ℕ, ◌+◌, ◌≤◌, List, length, take, sym, refl, ap, ◌∙◌, subst, inl, inr, arith}
+use Rattle.std.proofs.Common.{◌≡◌, ℕ, ◌+◌, ◌<◌, ◌≤◌, List, length, take, sym, refl, ap, ◌∙◌, subst, inl, inr, arith}
 use Rattle.std.proofs.lemmas.List.{take-take}
 use Rattle.std.proofs.lemmas.Bool.{cases_lt}
 use Rattle.grammar.specs.Codes.{Codes, LetterUnit, ColourUnit, FaceUnit, codes_of_letter, codes_of_tile}
 use Rattle.grammar.specs.Grammar.{byte, OneUnit, letter, tile}
-use Rattle.grammar.specs.Reading.{Anything, Stops}
-use Rattle.grammar.proofs.Texts.{same_byte, put, put_same, length_put, byte_put, byte_put_before}
+use Rattle.grammar.specs.Reading.{Anything, Stops, Faults, Lacks}
+use Rattle.refusals.specs.declared.Refusal.{Refusal}
+use Rattle.grammar.proofs.Texts.{past, same_byte, put, put_same, length_put, byte_put, byte_put_before}
 
 -- no unit begins with the byte at i
 pub unit_stops_first : {u : ℕ} {s : List ℕ} {i : ℕ} → 1 ≤ u → u ≤ 2 → i ≤ length s → (u ≡ 1 → LetterUnit (byte s i) → ⊥) → (u ≡ 2 → ColourUnit (byte s i) → ⊥) → Stops Codes (OneUnit u) Anything s i i
@@ -58,3 +59,15 @@ unit_stops_face {u} {s} {i} v x l y =
     no : (s' : List ℕ) (j : ℕ) (m : Codes) → take (i + 1 + 1) s ≡ take (i + 1 + 1) s' → OneUnit u s' i j m → ⊥
     no s' j m e (letter v' w z) = omega arith
     no s' j m e (tile v' w z p q) = y (subst FaceUnit (sym (same_byte s s' (i + 1 + 1) (i + 1) e (omega arith) ∙ p)) q)
+
+-- the colour is lacking
+pub colour_lacks : {u : ℕ} (s : List ℕ) (i : ℕ) (e : Refusal) → u ≡ 2 → i < length s → Lacks ColourUnit s i e → Faults Codes (OneUnit u) Anything s i e
+colour_lacks {u} s i e v l (inl x) = subst (Faults Codes (OneUnit u) Anything s i) (sym x.0) (x.1.0, unit_stops_first (omega arith) (omega arith) (omega arith) (λ w z. absurd (omega arith)) (λ w. x.1.1))
+colour_lacks s i e v l (inr x) = absurd (omega (arith, x.1))
+
+-- the face is lacking
+pub face_lacks : {u : ℕ} (s : List ℕ) (i : ℕ) (e : Refusal) → u ≡ 2 → ColourUnit (byte s i) → i < length s → Lacks FaceUnit s (i + 1) e → Faults Codes (OneUnit u) Anything s i e
+face_lacks {u} s i e v c l (inl x) = subst (Faults Codes (OneUnit u) Anything s i) (sym x.0) (x.1.0, unit_stops_face v c (omega arith) x.1.1)
+face_lacks {u} s i e v c l (inr x) =
+    let f : byte s (i + 1) ≡ 256 = past s (i + 1) (omega (arith, x.1)) in
+    subst (Faults Codes (OneUnit u) Anything s i) (sym x.0) (x.1, unit_stops_face v c (omega arith) (λ y. grind (arith, f, y)))

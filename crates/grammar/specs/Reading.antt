@@ -1,11 +1,13 @@
 -- What each reader answers.
-use Rattle.std.specs.Prelude.{◌≡◌, ℕ, ◌+◌, ◌<◌, ◌≤◌, ◌⊎◌, List, length, take, Ok, Err, Result, ◌≢◌}
+use Rattle.std.specs.Prelude.{◌≡◌, ℕ, ◌+◌, ◌<◌, ◌≤◌, ◌⊎◌, List, length, take, Ok, Err, Result, Some, None, Option, ◌≢◌}
 use Rattle.grammar.specs.Codes.{LetterUnit, ColourUnit}
 use Rattle.grammar.specs.Ast.{Ast}
 use Rattle.grammar.specs.Grammar.{byte, Begins, IsPattern}
 use Rattle.grammar.specs.Nodes.{ast_of}
 use Rattle.alphabets.specs.Alphabets.{unit_of}
+use Rattle.alphabets.specs.Colours.{letter_of}
 use Rattle.alphabets.specs.declared.Alphabet.{Alphabet}
+use Rattle.alphabets.specs.declared.colours.Colour.{Colour}
 use Rattle.grammar.specs.declared.tree.Node.{Node}
 use Rattle.grammar.specs.declared.bytes.Role.{Role}
 use Rattle.grammar.specs.declared.bytes.Role.TheVariants as roles
@@ -50,6 +52,20 @@ Means u c roles.Tile = (u ≡ 2) × ColourUnit c
 Means u c roles.Quantifier = QuantifierByte c
 Means u c roles.Stop = AfterBranch c
 Means u c roles.Other = (c ≢ 40) × (c ≢ 91) × (u ≡ 1 → LetterUnit c → ⊥) × (u ≡ 2 → ColourUnit c → ⊥) × (QuantifierByte c → ⊥) × (AfterBranch c → ⊥)
+
+-- How the first half of a tile's unit is written: by the letter of a colour, or `.` where it is open.
+abbrev pub colour_byte : Option Colour → ℕ
+colour_byte None = 46
+colour_byte (Some c) = letter_of c
+
+-- And the second: by a digit, or `.`.
+abbrev pub face_byte : Option ℕ → ℕ
+face_byte None = 46
+face_byte (Some f) = 48 + f
+
+-- What a refusal says where one byte was to be read: the one at i is not as wanted, or the text ends there.
+abbrev pub Lacks : (ℕ → Type 0) → List ℕ → ℕ → Refusal → Type 0
+Lacks Wanted s i e = ((e ≡ Byte i) × ((i < length s) × (Wanted (byte s i) → ⊥))) ⊎ ((e ≡ End i) × (i ≡ length s))
 
 -- The bytes from i on and before q derive x, and what follows may follow; q is at least a given place.
 pub record Read (X : Type 0) (R : List ℕ → ℕ → ℕ → X → Type 0) (After : ℕ → Type 0) (s : List ℕ) (least i q : ℕ) (x : X) : Type 0 where

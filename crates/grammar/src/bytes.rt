@@ -1,7 +1,9 @@
 //! One byte of the text: whether it is the one looked for, and what it means where an atom, a quantifier or the end may stand.
-ghost use Rattle.std.specs.Prelude.{◌≡◌, ◌==◌};
+ghost use Rattle.std.specs.Prelude.{◌≡◌, ◌<◌, ◌≤◌, length, ◌==◌, MatchOption};
 ghost use Rattle.grammar.specs.Grammar.{byte};
 ghost use Rattle.grammar.specs.Reading.{Means};
+
+use crate::reader::Reader;
 
 /// What a byte means to the reader.
 #[derive(Clone, Copy, PartialEq, Eq, Debug)]
@@ -22,13 +24,6 @@ pub(crate) enum Role {
     Other,
 }
 
-/// Whether the byte at a place is `b`; none is from the end on.
-pub(crate) fn next_is(s: &[u8], at: usize, b: u8) -> bool
-    ensures { result ≡ (byte s.now at == b) }
-{
-    at < s.len() && s[at] == b
-}
-
 /// What a byte means.
 fn role_of(unit: usize, b: u8) -> Role
     ensures { Means unit b result }
@@ -44,13 +39,29 @@ fn role_of(unit: usize, b: u8) -> Role
     }
 }
 
-/// What the byte at a place means, and the end of the text.
-pub(crate) fn role_at(unit: usize, s: &[u8], at: usize) -> Role
-    ensures { Means unit (byte s.now at) result }
-{
-    if at < s.len() {
-        role_of(unit, s[at])
-    } else {
-        Role::Stop
+impl<'a> Reader<'a> {
+    /// The byte at a place; none from the end on.
+    pub(crate) fn byte(&self, at: usize) -> Option<u8>
+        ensures { MatchOption result ((length self.now.text.now ≤ at) × (byte self.now.text.now at ≡ 256))
+            (λ b. (at < length self.now.text.now) × (byte self.now.text.now at ≡ b)) }
+    {
+        self.text.get(at).copied()
+    }
+
+    /// Whether the byte at a place is `b`; none is from the end on.
+    pub(crate) fn next_is(&self, at: usize, b: u8) -> bool
+        ensures { result ≡ (byte self.now.text.now at == b) }
+    {
+        self.byte(at) == Some(b)
+    }
+
+    /// What the byte at a place means, and the end of the text.
+    pub(crate) fn role(&self, at: usize) -> Role
+        ensures { Means self.now.unit (byte self.now.text.now at) result }
+    {
+        match self.byte(at) {
+            Some(b) => role_of(self.unit, b),
+            None => Role::Stop,
+        }
     }
 }

@@ -14,6 +14,7 @@ mod bytes;
 mod classes;
 mod makers;
 mod patterns;
+mod reader;
 mod tree;
 mod units;
 

@@ -12,10 +12,7 @@ use std::alloc::Global;
 fn boxed(heap: Global, node: Node) -> Result<Box<Node>, Refusal>
     ensures { MatchResult result (λ x. x.value ≡ node) (λ e. e ≡ Memory) }
 {
-    match Box::new(heap, node) {
-        Ok(x) => Ok(x),
-        Err(_) => Err(Refusal::Memory),
-    }
+    Box::new(heap, node).map_err(|_| Refusal::Memory)
 }
 
 /// One part after another.

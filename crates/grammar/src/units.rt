@@ -1,10 +1,12 @@
 //! The codes that a unit spells.
-ghost use Rattle.std.specs.Prelude.{◌≡◌, ◌+◌, ◌<◌, length, Decides};
+ghost use Rattle.std.specs.Prelude.{◌≡◌, ◌+◌, ◌<◌, ◌≤◌, length, IfSome, IfOk, MatchResult};
 ghost use Rattle.bits.specs.Members.{member};
-ghost use Rattle.grammar.specs.Codes.{Codes, LetterUnit, ColourUnit, FaceUnit, colour_of, codes_of_letter, codes_of_tile};
-ghost use Rattle.grammar.specs.Grammar.{OneUnit};
-ghost use Rattle.grammar.specs.Reading.{Reads, Anything};
+ghost use Rattle.grammar.specs.Codes.{Codes, LetterUnit, ColourUnit, FaceUnit, codes_of_letter, codes_of_tile};
+ghost use Rattle.grammar.specs.Grammar.{OneUnit, byte};
+ghost use Rattle.grammar.specs.Reading.{Reads, Anything, colour_byte, face_byte, Lacks};
 
+use crate::reader::Reader;
+use alphabets::Colour;
 use bits::Set64;
 use refusals::Refusal;
 
@@ -13,69 +15,67 @@ pub(crate) fn letter_codes(b: u8) -> Set64
     requires { LetterUnit b }
     ensures { member result ≡ codes_of_letter b }
 {
-    if b == b'.' {
-        Set64::below(26)
-    } else {
-        Set64::only(b - b'a')
-    }
-}
-
-/// The colour that a byte other than `.` stands for.
-fn colour(b: u8) -> u8
-    ensures { (result ≡ colour_of b) × (result < 4) }
-{
     match b {
-        b'R' => 0,
-        b'G' => 1,
-        b'B' => 2,
-        _ => 3,
+        b'.' => Set64::below(26),
+        _ => Set64::only(b - b'a'),
     }
 }
 
-/// What a colour and a face spell; `.` leaves its half open.
-fn tile_codes(c: u8, d: u8) -> Set64
-    requires { ColourUnit c × FaceUnit d }
-    ensures { member result ≡ codes_of_tile c d }
+/// What a colour and a face spell; none leaves that half open.
+fn tile_codes(colour: Option<Colour>, face: Option<u8>) -> Set64
+    requires { IfSome face (λ f. f < 10) }
+    ensures { member result ≡ codes_of_tile (colour_byte colour) (face_byte face) }
 {
-    if d == b'.' {
-        if c == b'.' {
-            Set64::below(40)
-        } else {
-            let first = 10 * colour(c);
+    match (colour, face) {
+        (None, None) => Set64::below(40),
+        (Some(colour), None) => {
+            let first = 10 * colour.number();
             Set64::span(first, first + 9)
         }
-    } else if c == b'.' {
-        let face = d - b'0';
-        Set64::only(face)
+        (None, Some(face)) => Set64::only(face)
             .union(Set64::only(face + 10))
             .union(Set64::only(face + 20))
-            .union(Set64::only(face + 30))
-    } else {
-        Set64::only(10 * colour(c) + (d - b'0'))
+            .union(Set64::only(face + 30)),
+        (Some(colour), Some(face)) => Set64::only(10 * colour.number() + face),
     }
 }
 
-/// Whether a byte is a face: a digit or `.`.
-fn is_face(b: u8) -> bool
-    ensures { Decides result (FaceUnit b) }
-{
-    matches!(b, b'0'..=b'9' | b'.')
-}
-
-/// A tile's unit, and the place after it.
-pub(crate) fn tile(unit: usize, s: &[u8], at: usize) -> Result<(Set64, usize), Refusal>
-    requires { (unit ≡ 2) × (at < length s.now) }
-    ensures { Reads Set64 Codes member (OneUnit unit) Anything s.now (at + 1) at result }
-{
-    match s[at] {
-        b'R' | b'G' | b'B' | b'Y' | b'.' if at + 1 == s.len() => Err(Refusal::End(at + 1)),
-        b'R' | b'G' | b'B' | b'Y' | b'.' => {
-            if is_face(s[at + 1]) {
-                Ok((tile_codes(s[at], s[at + 1]), at + 2))
-            } else {
-                Err(Refusal::Byte(at + 1))
-            }
+impl<'a> Reader<'a> {
+    /// The colour in the first half of a tile's unit; none where that is `.`.
+    fn colour(&self, at: usize) -> Result<Option<Colour>, Refusal>
+        requires { at ≤ length self.now.text.now }
+        ensures { MatchResult result (λ c. byte self.now.text.now at ≡ colour_byte c) (λ e. Lacks ColourUnit self.now.text.now at e) }
+    {
+        match self.byte(at) {
+            None => Err(Refusal::End(at)),
+            Some(b'.') => Ok(None),
+            Some(b) => match Colour::try_from(b) {
+                Ok(colour) => Ok(Some(colour)),
+                Err(_) => Err(Refusal::Byte(at)),
+            },
         }
-        _ => Err(Refusal::Byte(at)),
+    }
+
+    /// The face in the second half of a tile's unit; none where that is `.`.
+    fn face(&self, at: usize) -> Result<Option<u8>, Refusal>
+        requires { at ≤ length self.now.text.now }
+        ensures { MatchResult result (λ f. (byte self.now.text.now at ≡ face_byte f) × IfSome f (λ n. n < 10)) (λ e. Lacks FaceUnit self.now.text.now at e) }
+    {
+        match self.byte(at) {
+            None => Err(Refusal::End(at)),
+            Some(b'.') => Ok(None),
+            Some(d @ b'0'..=b'9') => Ok(Some(d - b'0')),
+            Some(_) => Err(Refusal::Byte(at)),
+        }
+    }
+
+    /// A tile's unit, and the place after it.
+    pub(crate) fn tile(&self, at: usize) -> Result<(Set64, usize), Refusal>
+        requires { (self.now.unit ≡ 2) × (at < length self.now.text.now) }
+        ensures { Reads Set64 Codes member (OneUnit self.now.unit) Anything self.now.text.now (at + 1) at result }
+    {
+        let colour = self.colour(at)?;
+        let face = self.face(at + 1)?;
+        Ok((tile_codes(colour, face), at + 2))
     }
 }

@@ -15,6 +15,7 @@ use tables::Table;
 pub fn alphabet<K: Kind>() -> Alphabet
     ensures { result ≡ alphabet_of K.Kind }
 {
+    // By the number: of how its symbols are written a kind tells only how long a unit is.
     if K::unit_length() == 1 {
         Alphabet::Letters
     } else {
@@ -46,6 +47,7 @@ impl<K: Kind> Plan<K> {
         ensures { ReadInto K.Kind text.now result self.new }
     {
         let written = alphabet::<K>();
+        // By a match: each side leaves another plan.
         match text_table(heap, written, text) {
             Ok(table) => {
                 *self = plan_with(written, text, table);

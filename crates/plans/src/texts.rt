@@ -2,8 +2,8 @@ ghost use Rattle.std.specs.Prelude.{[], MatchResult};
 ghost use Rattle.plans.specs.Made.{TableFrom};
 ghost use Rattle.plans.specs.Plans.{RefusedText};
 
-use glushkov::table_of;
 use alphabets::Alphabet;
+use glushkov::table_of;
 use grammar::Node;
 use refusals::Refusal;
 use std::alloc::Global;
@@ -15,10 +15,7 @@ pub(crate) fn text_table(heap: Global, alphabet: Alphabet, text: &[u8]) -> Resul
     ensures { MatchResult result (λ t. TableFrom alphabet text.now t) (λ e. RefusedText alphabet text.now e) }
 {
     let node = parse(heap, alphabet, text)?;
-    match table_of(&node) {
-        Some(table) => Ok(table),
-        None => unreachable(),
-    }
+    Ok(table_of(&node).unwrap())
 }
 
 // The table of the empty pattern.
@@ -26,8 +23,5 @@ pub(crate) fn empty_table() -> Table
     ensures letters { TableFrom Alphabet.Letters [] result }
     ensures tiles { TableFrom Alphabet.Tiles [] result }
 {
-    match table_of(&Node::Empty) {
-        Some(table) => table,
-        None => unreachable(),
-    }
+    table_of(&Node::Empty).unwrap()
 }

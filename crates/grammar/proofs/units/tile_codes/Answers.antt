@@ -1,29 +1,36 @@
 -- The set of a tile with both halves, one half or no half written.
+use Rattle.std.proofs.Common.{◌<◌, ◌∙◌}
 use mathlib.Core.Path.{fun_ext}
-use Rattle.grammar.proofs.Spelling.{any_tile, one_colour, one_face, one_tile, not_open}
+use Rattle.alphabets.specs.Colours.{letter_of}
+use Rattle.grammar.proofs.Spelling.{any_tile, one_colour, one_face, one_tile, colour_lem}
 use Rattle.grammar.proofs.units.tile_codes.Goals as goal
 
-pub returns-then-c-eq46 : goal.returns-then-c-eq46
-returns-then-c-eq46 c = fun_ext (λ k. let x = c.below.ensures k in let y = any_tile k in let a = c.if-c-eq46.true in let b = c.if-d-eq46.true in cc)
+pub returns-in-None-None : goal.returns-in-None-None
+returns-in-None-None c = rw (c.in-None-None.is-0, c.in-None-None.is-1) (fun_ext (λ k. c.below.ensures k ∙ any_tile k))
 
-pub returns-else-c-eq46 : goal.returns-else-c-eq46
-returns-else-c-eq46 c =
-    fun_ext (λ k. let x = c.span.ensures k in let y = one_colour c.args.c c.colour-first.result k c.if-c-eq46.false c.colour-first.ensures.0 c.colour-first.ensures.1 in let b = c.if-d-eq46.true in cc)
+pub returns-in-Some-None : goal.returns-in-Some-None
+returns-in-Some-None c =
+    let n = c.number-first in
+    let l = colour_lem c.in-Some-None.colour in
+    rw (c.in-Some-None.is-0, c.in-Some-None.is-1) (fun_ext (λ k. c.span.ensures k ∙ one_colour (letter_of c.in-Some-None.colour) n.result k l.0 (n.ensures.0 ∙ l.1) n.ensures.1))
 
-pub returns-then-c-eq46-2 : goal.returns-then-c-eq46-2
-returns-then-c-eq46-2 c =
-    fun_ext (λ k.
+pub returns-in-None-Some : goal.returns-in-None-Some
+returns-in-None-Some c =
+    let h : c.in-None-Some.face < 10 = rw c.in-None-Some.is-1 at c.requires in
+    rw (c.in-None-Some.is-0, c.in-None-Some.is-1) (fun_ext (λ k.
     let a₀ = c.only.ensures k in
-    let a₁ = c.only-then-c-eq46-2.ensures k in
-    let a₂ = c.only-then-c-eq46-2-2.ensures k in
-    let a₃ = c.only-then-c-eq46-2-3.ensures k in
+    let a₁ = c.only-in-None-Some.ensures k in
+    let a₂ = c.only-in-None-Some-2.ensures k in
+    let a₃ = c.only-in-None-Some-3.ensures k in
     let b₁ = c.union.ensures k in
-    let b₂ = c.union-then-c-eq46-2.ensures k in
-    let b₃ = c.union-then-c-eq46-2-2.ensures k in
-    let y = one_face c.args.d k (not_open c.requires.1 c.if-d-eq46.false) in
-    let e = c.if-c-eq46-2.true in
-    cc)
+    let b₂ = c.union-in-None-Some.ensures k in
+    let b₃ = c.union-in-None-Some-2.ensures k in
+    let y = one_face c.in-None-Some.face k h in
+    cc))
 
-pub returns-else-c-eq46-2 : goal.returns-else-c-eq46-2
-returns-else-c-eq46-2 c =
-    fun_ext (λ k. let x = c.only-else-c-eq46-2.ensures k in let y = one_tile c.args.c c.args.d c.colour.result k c.if-c-eq46-2.false c.colour.ensures.0 c.colour.ensures.1 (not_open c.requires.1 c.if-d-eq46.false) in cc)
+pub returns-in-Some-Some : goal.returns-in-Some-Some
+returns-in-Some-Some c =
+    let n = c.number in
+    let l = colour_lem c.in-Some-Some.colour in
+    let h : c.in-Some-Some.face < 10 = rw c.in-Some-Some.is-1 at c.requires in
+    rw (c.in-Some-Some.is-0, c.in-Some-Some.is-1) (fun_ext (λ k. c.only-in-Some-Some.ensures k ∙ one_tile (letter_of c.in-Some-Some.colour) c.in-Some-Some.face n.result k l.0 (n.ensures.0 ∙ l.1) n.ensures.1 h))

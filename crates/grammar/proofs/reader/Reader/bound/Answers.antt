@@ -5,7 +5,7 @@ use Rattle.grammar.specs.Reading.{AfterNumber}
 use Rattle.grammar.proofs.Exits.{exit}
 use Rattle.grammar.proofs.Texts.{within}
 use Rattle.grammar.proofs.BoundStops.{bound_stops_in_low, bound_stops_in_high, bound_stops_after_high}
-use Rattle.grammar.proofs.bounds.bound.Goals as goal
+use Rattle.grammar.proofs.reader.Reader.bound.Goals as goal
 
 -- what follows a number and is no `}` is a `,`
 comma : {c : ℕ} → AfterNumber c → (c ≡ 125 → ⊥) → c ≡ 44
@@ -13,11 +13,11 @@ comma a x = elim a [ inl e ↦ e | inr e ↦ absurd (x e) ]
 
 pub returns-in_err-low : goal.returns-in_err-low
 returns-in_err-low c =
-    exit (λ x. x) (c.args.at + 1) (bound_stops_in_low {s = c.args.s.now} c.requires.1) c.from_residual.result c.in_err-low.field-0.0 c.from_residual.ensures.1 c.in_err-low.ensures
+    exit (λ x. x) (c.args.at + 1) (bound_stops_in_low {s = c.args.self.now.text.now} c.requires.1) c.from_residual.result c.in_err-low.field-0.0 c.from_residual.ensures.1 c.in_err-low.ensures
 
 pub returns-then-next_is : goal.returns-then-next_is
 returns-then-next_is c =
-    let s = c.args.s.now in
+    let s = c.args.self.now.text.now in
     let a = c.in_ok-low.ensures in
     let x = true-eqb (byte s c.in_ok-low.p) 125 c.if-next_is.ensures in
     let l = within s c.in_ok-low.p (omega arith) in
@@ -28,24 +28,16 @@ returns-then-next_is c =
       after = tt;
     }
 
-pub number-requires-2 : goal.number-requires-2
-number-requires-2 c =
-    let s = c.args.s.now in
-    let a = c.in_ok-low.ensures in
-    let x = comma a.after (false-eqb (byte s c.in_ok-low.p) 125 c.if-next_is.ensures) in
-    let l = within s c.in_ok-low.p (omega arith) in
-    omega arith
-
 pub returns-in_err-high : goal.returns-in_err-high
 returns-in_err-high c =
-    let s = c.args.s.now in
+    let s = c.args.self.now.text.now in
     let a = c.in_ok-low.ensures in
     let x = comma a.after (false-eqb (byte s c.in_ok-low.p) 125 c.if-next_is.ensures) in
     exit (λ y. y) (c.args.at + 1) (bound_stops_in_high {s = s} c.requires.1 a x) c.from_residual-in_err-high.result c.in_err-high.field-0.0 c.from_residual-in_err-high.ensures.1 c.in_err-high.ensures
 
 pub returns-then-next_is-2 : goal.returns-then-next_is-2
 returns-then-next_is-2 c =
-    let s = c.args.s.now in
+    let s = c.args.self.now.text.now in
     let a = c.in_ok-low.ensures in
     let b = c.in_ok-high.ensures in
     let x = comma a.after (false-eqb (byte s c.in_ok-low.p) 125 c.if-next_is.ensures) in
@@ -60,7 +52,7 @@ returns-then-next_is-2 c =
 
 pub returns-else-next_is-2 : goal.returns-else-next_is-2
 returns-else-next_is-2 c =
-    let s = c.args.s.now in
+    let s = c.args.self.now.text.now in
     let a = c.in_ok-low.ensures in
     let b = c.in_ok-high.ensures in
     let x = comma a.after (false-eqb (byte s c.in_ok-low.p) 125 c.if-next_is.ensures) in

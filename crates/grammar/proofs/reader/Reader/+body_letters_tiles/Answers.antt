@@ -1,0 +1,138 @@
+-- A letter, a range or a tile, and the rest of the body; or where that stops.
+use Rattle.std.proofs.Common.{◌≡◌, ◌+◌, ◌||◌, None, sym, refl, ap, ◌∙◌, subst, arith, true-eqb, false-eqb}
+use mathlib.Core.Path.{fun_ext}
+use Rattle.bits.specs.Members.{member}
+use Rattle.grammar.specs.Codes.{Letter, codes_of_letter, codes_of_range, joined_codes, no_codes}
+use Rattle.grammar.specs.Grammar.{byte, back_of, Body, nothing, one, range, tiles}
+use Rattle.grammar.specs.Nodes.{spelled}
+use Rattle.grammar.proofs.Exits.{exit}
+use Rattle.grammar.proofs.Texts.{within}
+use Rattle.grammar.proofs.Spelling.{some_letters, pair_is, back_here, back_later}
+use Rattle.grammar.proofs.ClassStops.{body_stops_first, body_stops_after_letter, body_stops_at_high, body_stops_after_range, body_stops_in_tile, body_stops_after_tile}
+use Rattle.grammar.proofs.reader.Reader.+body_letters_tiles.Goals as goal
+use Rattle.grammar.proofs.reader.Reader.+body_letters_tiles.Goals.{letters-then-to-from, letters-else-to-from, letters-in_default-to-via-then-to-lt97, letters-in_default-to-via-else-to-lt97+else-to-lt123}
+
+pub body-returns-in_default : goal.body-returns-in_default
+body-returns-in_default t c =
+    let f = c.in_default.ensures.1 in
+    (omega arith, body_stops_first c.requires (λ x. grind (arith, f, x)))
+
+pub body-returns-in-93 : goal.body-returns-in-93
+body-returns-in-93 t c =
+    let s = c.args.self.now.text.now in
+    let i = c.args.at in
+    let u = c.args.self.now.unit in
+    let d : Body u s i i (no_codes, None) = nothing in
+    record {
+      ahead = omega arith;
+      inside = c.requires;
+      derives = subst (λ x. Body u s i i x) (pair_is (fun_ext (λ k. sym (c.empty.ensures k))) refl) d;
+      after = c.in-Some.ensures.1 ∙ grind arith;
+    }
+
+pub body-returns-in_default-2 : goal.body-returns-in_default-2
+body-returns-in_default-2 t c =
+    let f = c.in-Some.ensures in
+    (f.0, body_stops_first c.requires (λ x. grind (arith, f.1, x)))
+
+pub body-returns-in_default-2-2 : goal.body-returns-in_default-2-2
+body-returns-in_default-2-2 t c =
+    let f = c.in-Some.ensures in
+    (f.0, body_stops_first c.requires (λ x. grind (arith, f.1, x)))
+
+pub letters-returns-in_err-rest : goal.letters-returns-in_err-rest
+letters-returns-in_err-rest t c =
+    let s = c.args.self.now.text.now in
+    let i = c.args.at in
+    let x = false-eqb (byte s (i + 1)) 45 (sym c.if-not-next_is.true ∙ c.next_is.ensures) in
+    exit spelled i (body_stops_after_letter {s = s} c.requires.0 (rw c.requires.1 c.requires.2) x) c.from_residual.result c.in_err-rest.field-0.0 c.from_residual.ensures.1 c.in_err-rest.ensures
+
+pub letters-returns-then-not-next_is : goal.letters-returns-then-not-next_is
+letters-returns-then-not-next_is t c =
+    let s = c.args.self.now.text.now in
+    let i = c.args.at in
+    let u = c.args.self.now.unit in
+    let k = c.in_ok-rest in
+    let h = k.ensures in
+    let d = one c.requires.0 c.requires.1 c.requires.2 h.derives in
+    let m : joined_codes (codes_of_letter c.args.from) (member k.rest) ≡ member c.union.result =
+    fun_ext (λ v. ap (λ f. f v || member k.rest v) (sym c.letter_codes.ensures) ∙ sym (c.union.ensures v)) in
+    record {
+      ahead = omega (arith, h.ahead);
+      inside = h.inside;
+      derives = subst (λ x. Body u s i k.p x) (pair_is m refl) d;
+      after = h.after;
+    }
+
+pub letters-returns-in_default : goal.letters-returns-in_default
+letters-returns-in_default t c =
+    let s = c.args.self.now.text.now in
+    let i = c.args.at in
+    let x : byte s (i + 1) ≡ 45 = true-eqb _ _ (sym c.if-not-next_is.false ∙ c.next_is.ensures) in
+    let l = within s (i + 1) (omega arith) in
+    let f = c.in_default.ensures.1 in
+    (omega arith, body_stops_at_high c.requires.0 (rw c.requires.1 c.requires.2) x (omega arith) (λ y. omega (arith, f, y.0, y.1)))
+
+pub letters-returns-in_err-rest-in-97-to-122 : goal.letters-returns-in_err-rest-in-97-to-122
+letters-returns-in_err-rest-in-97-to-122 t c =
+    let s = c.args.self.now.text.now in
+    let i = c.args.at in
+    let x : byte s (i + 1) ≡ 45 = true-eqb _ _ (sym c.if-not-next_is.false ∙ c.next_is.ensures) in
+    let f = c.in-Some.ensures.1 in
+    exit spelled i (body_stops_after_range {s = s} c.requires.0 (rw c.requires.1 c.requires.2) x (omega arith, omega arith)) c.from_residual-in_err-rest-in-97-to-122.result c.in_err-rest-in-97-to-122.field-0.0 c.from_residual-in_err-rest-in-97-to-122.ensures.1 c.in_err-rest-in-97-to-122.ensures
+
+pub letters-returns-after-to-from : goal.letters-returns-after-to-from
+letters-returns-after-to-from t c =
+    let s = c.args.self.now.text.now in
+    let i = c.args.at in
+    let u = c.args.self.now.unit in
+    let from = c.args.from in
+    let to = c.in-Some.to in
+    let k = c.in_ok-rest-in-97-to-122 in
+    let f = c.in-Some.ensures.1 in
+    let x : byte s (i + 1) ≡ 45 = true-eqb _ _ (sym c.if-not-next_is.false ∙ c.next_is.ensures) in
+    let y : Letter to = (omega arith, omega arith) in
+    let h = k.ensures in
+    let d = range c.requires.0 c.requires.1 c.requires.2 x f y h.derives in
+    let b : c.if-to-from.back ≡ back_of i from to k.back =
+    elim c.if-to-from.branch [ letters-then-to-from w ↦ w.back-is ∙ sym (back_here i from to k.back w.if-to-from.true) | letters-else-to-from w ↦ w.back-is ∙ sym (back_later i from to k.back w.if-to-from.false) ] in
+    let m : joined_codes (codes_of_range from to) (member k.rest) ≡ member c.union-in-97-to-122.result =
+    fun_ext (λ v. ap (λ z. z || member k.rest v) (sym (c.span.ensures v ∙ some_letters from to v c.requires.2 y)) ∙ sym (c.union-in-97-to-122.ensures v)) in
+    record {
+      ahead = omega (arith, h.ahead);
+      inside = h.inside;
+      derives = subst (λ z. Body u s i k.p z) (pair_is m (sym b)) d;
+      after = h.after;
+    }
+
+pub letters-returns-in_default-to : goal.letters-returns-in_default-to
+letters-returns-in_default-to t c =
+    let s = c.args.self.now.text.now in
+    let i = c.args.at in
+    let f = c.in-Some.ensures.1 in
+    let x : byte s (i + 1) ≡ 45 = true-eqb _ _ (sym c.if-not-next_is.false ∙ c.next_is.ensures) in
+    (c.in-Some.ensures.0, body_stops_at_high c.requires.0 (rw c.requires.1 c.requires.2) x (omega arith) (λ y. elim c.in_default-to.branch [ letters-in_default-to-via-then-to-lt97 w ↦ omega (arith, f, y.0, y.1, w) | letters-in_default-to-via-else-to-lt97+else-to-lt123 w ↦ omega (arith, f, y.0, y.1, w) ]))
+
+pub tiles-returns-in_err-first : goal.tiles-returns-in_err-first
+tiles-returns-in_err-first t c =
+    exit spelled c.args.at (body_stops_in_tile {s = c.args.self.now.text.now} c.requires.0 c.requires.2) c.from_residual.result c.in_err-first.field-0.0 c.from_residual.ensures.1 c.in_err-first.ensures
+
+pub tiles-returns-in_err-rest : goal.tiles-returns-in_err-rest
+tiles-returns-in_err-rest t c =
+    exit spelled c.args.at (body_stops_after_tile {s = c.args.self.now.text.now} c.requires.0 c.requires.2 c.in_ok-first.ensures) c.from_residual-in_err-rest.result c.in_err-rest.field-0.0 c.from_residual-in_err-rest.ensures.1 c.in_err-rest.ensures
+
+pub tiles-returns : goal.tiles-returns
+tiles-returns t c =
+    let s = c.args.self.now.text.now in
+    let i = c.args.at in
+    let u = c.args.self.now.unit in
+    let a = c.in_ok-first.ensures in
+    let k = c.in_ok-rest in
+    let h = k.ensures in
+    let d = tiles c.requires.0 a.derives h.derives in
+    record {
+      ahead = omega (arith, a.ahead, h.ahead);
+      inside = h.inside;
+      derives = subst (λ x. Body u s i k.p x) (pair_is (fun_ext (λ v. sym (c.union.ensures v))) refl) d;
+      after = h.after;
+    }
