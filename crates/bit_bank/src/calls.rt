@@ -67,7 +67,7 @@ impl Bank for BitBank {
 
     fn turn(&mut self) {
         words::copy(&mut self.front, &self.back, self.rows.used);
-        self.drop_back();
+        words::clear(&mut self.back, self.rows.used);
     }
 
     fn drop_back(&mut self) {
