@@ -27,12 +27,12 @@ pub enum Raise {
     One,
 }
 
-impl Raise {
-    /// By how much a count is raised, as a number.
-    pub fn by(self) -> u16
-        ensures { result ≡ raise_by self }
-    {
-        match self {
+/// By how much a count is raised, as a number.
+impl From<Raise> for u16 {
+    ghost from_gives = { λ raise n. n ≡ raise_by raise };
+
+    fn from(raise: Raise) -> u16 {
+        match raise {
             Raise::Nothing => 0,
             Raise::One => 1,
         }
@@ -40,6 +40,8 @@ impl Raise {
 }
 
 /// What holds the standing pairs.
+// By premise and not by an invariant that every bank has: a call may be made in any state, and each bank says which of its
+// states the promises are of. A mask layer is in standing only where the bank below is, which no field of its own can say.
 pub trait Bank: Drop {
     /// What a bank in each of its states means.
     ghost means: { Meaning Self };

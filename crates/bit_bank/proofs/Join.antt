@@ -1,5 +1,5 @@
--- One word more of a row that is joined into another.
-use Rattle.std.proofs.Common.{◌≡◌, ℕ, ◌+◌, ◌-◌, ◌*◌, ◌/◌, ◌%◌, ◌^◌, ◌<◌, ◌≤◌, Bool, ◌&&◌, ◌||◌, eqb, ltb, leb, List, length, get_or, set, sym, ap, ◌∙◌, ap₂, ⊎_elim, arith}
+-- One word more of a row that is joined into another, each bit u places up, where u is 0 or 1.
+use Rattle.std.proofs.Common.{◌≡◌, ℕ, ◌+◌, ◌-◌, ◌*◌, ◌/◌, ◌%◌, ◌^◌, ◌<◌, ◌≤◌, Bool, ◌&&◌, ◌||◌, ltb, leb, List, length, get_or, set, sym, ap, ◌∙◌, ap₂, ⊎_elim, arith}
 use lib.Bits.{bit_and, bit_or}
 use Rattle.std.proofs.lemmas.Bool.{cases_eq}
 use Rattle.std.proofs.lemmas.Bool.Decides.{nat_tests}
@@ -8,7 +8,7 @@ use Rattle.bits.proofs.Laws.{bit_of_or, bit_shl, bit_mask, bit_shr, bit_past_wor
 use Rattle.bits.proofs.Words.{bit_at_is, bit_at_word, bit_at_set_same, bit_at_set_other}
 use Rattle.bit_bank.specs.Join.{joined}
 
--- what the word v has to have where it is joined into the word m of the row that begins at bit lo: its t lowest bits from the source
+-- what the word v has to show where it is joined into the word m of the row that begins at bit lo: its t lowest bits from the source
 abbrev pub Part : List ℕ → ℕ → ℕ → ℕ → ℕ → ℕ → Type 0
 Part src lo from m t v = (a : ℕ) → a / 64 ≡ m → bit v (a % 64) ≡ ((leb lo a && ltb a (64 * m + t)) && bit_at src (from + (a - lo)))
 
@@ -26,56 +26,41 @@ module _ (d0 d src : List ℕ) (lo from m v t : ℕ) (room : m < length d) (t64 
       bit_at_set_other d m _ a ne ∙ f ∙ grind (arith, nat_tests))
       (cases_eq (a / 64) m)
 
--- a whole word as it is
-pub whole : (src : List ℕ) (to from k : ℕ) → Part src (64 * to) (64 * from) (to + k) 64 (get_or src (from + k) 0)
-whole src to from k a e = let f = bit_at_word src (from + k) (a % 64) (omega arith) in grind (arith, nat_tests)
+-- what comes up from the word below from + k, where bits go u places up
+abbrev pub Carried : List ℕ → ℕ → ℕ → ℕ → ℕ → Type 0
+Carried src from u k over = (b : ℕ) → bit over b ≡ ((ltb b u && ltb 0 k) && bit_at src (64 * (from + k) - 1))
 
--- the r lowest bits of a word as they are
-pub lowest : (src : List ℕ) (to from k r : ℕ) → r < 64 → Part src (64 * to) (64 * from) (to + k) r (bit_and (get_or src (from + k) 0) (1 * 2 ^ r % 2 ^ 64 - 1))
-lowest src to from k r h a e =
-    let f = bit_at_word src (from + k) (a % 64) (omega arith) in
-    bit_mask (get_or src (from + k) 0) r (a % 64) h ∙ grind (arith, nat_tests)
+pub over_none : (src : List ℕ) (from u : ℕ) → Carried src from u 0 0
+over_none src from u b = bit_zero b ∙ grind (arith, nat_tests)
 
--- what comes up from the word below, where bits go one place up
-abbrev pub Over : List ℕ → ℕ → ℕ → ℕ → Type 0
-Over src from k over = (b : ℕ) → bit over b ≡ ((eqb b 0 && ltb 0 k) && bit_at src (64 * (from + k) - 1))
-
-pub over_none : (src : List ℕ) (from : ℕ) → Over src from 0 0
-over_none src from b = bit_zero b ∙ grind (arith, nat_tests)
-
--- the highest bit of a word goes on
-pub over_more : (src : List ℕ) (from k : ℕ) → get_or src (from + k) 0 < 2 ^ 64 → Over src from (k + 1) (get_or src (from + k) 0 / 2 ^ 63)
-over_more src from k fits b =
-    let w : ℕ = get_or src (from + k) 0 in
-    bit_shr (get_or src (from + k) 0) 63 b
+-- the highest u bits of a word go on
+pub over_more : (src : List ℕ) (from u k w : ℕ) → u ≤ 1 → w ≡ get_or src (from + k) 0 → w < 2 ^ 64 → Carried src from u (k + 1) (w / 2 ^ 1 / 2 ^ (63 - u))
+over_more src from u k w u1 is fits b =
+    bit_shr (w / 2 ^ 1) (63 - u) b
+    ∙ bit_shr w 1 (63 - u + b)
     ∙ ⊎_elim
-    (λ (h : b ≡ 0).
-    let y : bit_at src (64 * (from + k) + 63) ≡ bit (get_or src (from + k) 0) 63 = bit_at_word src (from + k) 63 (omega arith) in
-    let z : bit (get_or src (from + k) 0) (63 + b) ≡ bit (get_or src (from + k) 0) 63 = ap (λ (x : ℕ). bit (get_or src (from + k) 0) (63 + x)) h in
-    let x : bit_at src (64 * (from + (k + 1)) - 1) ≡ bit_at src (64 * (from + k) + 63) = ap (bit_at src) (let e : 64 * (from + (k + 1)) - 1 ≡ 64 * (from + k) + 63 = omega arith in e) in
+    (λ (h : 1 + (63 - u + b) ≡ 63).
+    let y : bit_at src (64 * (from + k) + 63) ≡ bit w 63 = bit_at_word src (from + k) 63 (omega arith) ∙ ap (λ (n : ℕ). bit n 63) (sym is) in
+    let z : bit w (1 + (63 - u + b)) ≡ bit w 63 = ap (bit w) h in
+    let x : bit_at src (64 * (from + (k + 1)) - 1) ≡ bit_at src (64 * (from + k) + 63) =
+    ap (bit_at src) (let e : 64 * (from + (k + 1)) - 1 ≡ 64 * (from + k) + 63 = omega arith in e) in
     grind (arith, nat_tests))
-    (λ (h : b ≡ 0 → ⊥). bit_past_word (get_or src (from + k) 0) (63 + b) fits (omega arith) ∙ grind (arith, nat_tests))
-    (cases_eq b 0)
+    (λ (h : 1 + (63 - u + b) ≡ 63 → ⊥). bit_past_word w (1 + (63 - u + b)) fits (omega arith) ∙ grind (arith, nat_tests))
+    (cases_eq (1 + (63 - u + b)) 63)
 
--- a word one place up, with what comes up from below; r of its bits count
-pub raised : (src : List ℕ) (to from k w over r : ℕ) → r < 64 → Over src from k over
+-- a word u places up, with what comes up from below; r of its bits count, and t of the word's that it is joined into
+pub raised : (src : List ℕ) (to from u k w over r t : ℕ) → u ≤ 1 → ((c : ℕ) → c < 64 → ltb c (r + u) ≡ ltb c t) → Carried src from u k over
     → ((c : ℕ) → c < 64 → bit w c ≡ (ltb c r && bit_at src (64 * (from + k) + c)))
-    → Part src (64 * to + 1) (64 * from) (to + k) (r + 1) (bit_or (w * 2 % 2 ^ 64) over)
-raised src to from k w over r lr below here a e =
-    let h = here (a % 64 - 1) (omega arith) in
+    → Part src (64 * to + u) (64 * from) (to + k) t (bit_or (w * 2 ^ u % 2 ^ 64) over)
+raised src to from u k w over r t u1 counts below here a e =
+    let h = here (a % 64 - u) (omega arith) in
     let o = below (a % 64) in
-    bit_of_or (w * 2 % 2 ^ 64) over (a % 64) ∙ ap (λ (x : Bool). x || bit over (a % 64)) (bit_shl w 1 (a % 64) (omega arith)) ∙ grind (arith, nat_tests)
+    let b = counts (a % 64) (omega arith) in
+    bit_of_or (w * 2 ^ u % 2 ^ 64) over (a % 64) ∙ ap (λ (x : Bool). x || bit over (a % 64)) (bit_shl w u (a % 64) (omega arith)) ∙ grind (arith, nat_tests)
 
--- a whole word one place up
-pub whole_raised : (src : List ℕ) (to from k over : ℕ) → Over src from k over
-    → Part src (64 * to + 1) (64 * from) (to + k) 64 (bit_or (get_or src (from + k) 0 * 2 % 2 ^ 64) over)
-whole_raised src to from k over below a e =
-    let h = bit_at_word src (from + k) (a % 64 - 1) (omega arith) in
-    let o = below (a % 64) in
-    bit_of_or (get_or src (from + k) 0 * 2 % 2 ^ 64) over (a % 64)
-    ∙ ap (λ (x : Bool). x || bit over (a % 64)) (bit_shl (get_or src (from + k) 0) 1 (a % 64) (omega arith))
-    ∙ grind (arith, nat_tests)
+-- a whole word, and the r lowest bits of one
+pub all_bits : (src : List ℕ) (m w c : ℕ) → w ≡ get_or src m 0 → c < 64 → bit w c ≡ (ltb c 64 && bit_at src (64 * m + c))
+all_bits src m w c is h = let f = bit_at_word src m c h in grind (arith, nat_tests)
 
--- the r lowest bits of a word
 pub low_bits : (src : List ℕ) (m r c : ℕ) → r < 64 → c < 64 → bit (bit_and (get_or src m 0) (1 * 2 ^ r % 2 ^ 64 - 1)) c ≡ (ltb c r && bit_at src (64 * m + c))
 low_bits src m r c hr h = bit_mask (get_or src m 0) r c hr ∙ ap (λ (x : Bool). ltb c r && x) (sym (bit_at_word src m c h))

@@ -1,1 +1,5 @@
-pub mod Join
+mod Parts
+mod Stand
+mod Puts
+mod Join
+mod Any

@@ -1,4 +1,4 @@
+pub mod Row
 pub mod Join
 pub mod Means
-pub mod Puts
-pub mod Stand
+pub mod Facts

@@ -1,5 +1,5 @@
 ghost use Rattle.bit_bank.specs.Means.{bit_means};
-ghost use Rattle.bit_bank.specs.Puts.{bit_facts};
+ghost use Rattle.bit_bank.specs.Facts.{bit_facts};
 
 use crate::bank::BitBank;
 use crate::rows::Rows;
@@ -25,45 +25,43 @@ impl Bank for BitBank {
         let rows = Rows::of(plan);
         words::clear(&mut self.front, rows.used);
         words::clear(&mut self.back, rows.used);
-        words::put(&mut self.front, rows.bases[0] as usize, 0);
+        words::put(&mut self.front, usize::from(rows.list[0].base), 0);
         self.rows = rows;
     }
 
     fn add(&mut self, p: usize, i: u16) -> Result<(), Refusal> {
-        if !self.rows.has(p, i) {
-            return Ok(()); // a pair outside the widths is left out
+        match self.rows.get(p) {
+            Some(row) if row.has(i) => {
+                words::put(&mut self.back, usize::from(row.base), usize::from(i) - 1);
+                Ok(())
+            }
+            _ => Ok(()), // a pair outside the widths is left out
         }
-        let k = i as usize - 1;
-        let word = self.rows.bases[p] as usize + k / 64;
-        words::put(&mut self.back, word, k % 64);
-        Ok(())
     }
 
     fn carry(&mut self, p: usize, q: usize, raise: Raise) -> Result<(), Refusal> {
-        if p >= 65 || q >= 65 {
+        let (Some(row), Some(target)) = (self.rows.get(p), self.rows.get(q)) else {
             return Ok(()); // no such place: nothing to carry
-        }
-        let room = self.rows.widths[q].saturating_sub(raise.by());
-        let n = self.rows.widths[p].min(room) as usize;
-        let to = self.rows.bases[q] as usize;
-        let from = self.rows.bases[p] as usize;
+        };
+        let room = target.width.saturating_sub(u16::from(raise));
+        let n = usize::from(row.width.min(room));
+        let to = usize::from(target.base);
+        let from = usize::from(row.base);
         match raise {
-            Raise::Nothing => words::join(&mut self.back, &self.front, to, from, n),
-            Raise::One => words::join_raised(&mut self.back, &self.front, to, from, n),
+            Raise::Nothing => words::join::<0>(&mut self.back, &self.front, to, from, n),
+            Raise::One => words::join::<1>(&mut self.back, &self.front, to, from, n),
         }
         Ok(())
     }
 
     fn look(&self, p: usize, low: u16, high: u16) -> bool {
-        if p >= 65 {
+        let Some(row) = self.rows.get(p) else {
             return false;
-        }
-        let high = high.min(self.rows.widths[p]);
+        };
         words::any(
-            &self.front,
-            self.rows.bases[p] as usize,
-            low.saturating_sub(1) as usize,
-            high as usize,
+            &self.front[usize::from(row.base)..],
+            usize::from(low.saturating_sub(1)),
+            usize::from(high.min(row.width)),
         )
     }
 

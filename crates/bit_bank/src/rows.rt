@@ -1,61 +1,68 @@
-ghost use Rattle.std.specs.Prelude.{◌≡◌, ℕ, ◌+◌, ◌*◌, ◌<◌, ◌≤◌, true, length, slice_index};
+ghost use Rattle.std.specs.Prelude.{◌≡◌, ℕ, ◌+◌, ◌*◌, ◌<◌, ◌≤◌, List, length, MatchOption, nat_le, ◌&&◌};
 ghost use Rattle.widths.specs.Width.{width_of};
-ghost use Rattle.banks.specs.Pairs.{within};
+ghost use Rattle.bit_bank.specs.Row.{row_of};
 
 use widths::Widths;
 
-/// Where the rows of the places lie: each begins at a word of its own, after the rows of the places before it.
+/// Where the row of a place lies: from the word `base` on, a bit to each count up to `width`.
+#[derive(Clone, Copy)]
+pub struct Row {
+    pub(crate) base: u16,
+    pub(crate) width: u16,
+}
+
+/// The rows of the places: each begins at a word of its own, after the rows of the places before it.
 #[derive(Drop)]
 pub struct Rows {
-    pub(crate) widths: [u16; 65],
-    pub(crate) bases: [u16; 65],
+    pub(crate) list: [Row; 65],
     pub(crate) used: usize,
-    ghost long: { length widths ≡ 65 },
-    ghost room: { (p : ℕ) → p < 65 → 64 * slice_index bases p + slice_index widths p ≤ 64 * used },
-    ghost apart: { (p q : ℕ) → p < q → q < 65 → 64 * slice_index bases p + slice_index widths p ≤ 64 * slice_index bases q },
+    ghost long: { length list ≡ 65 },
+    ghost room: { (p : ℕ) → p < 65 → 64 * (row_of list p).base + (row_of list p).width ≤ 64 * used },
+    ghost apart: { (p q : ℕ) → p < q → q < 65 → 64 * (row_of list p).base + (row_of list p).width ≤ 64 * (row_of list q).base },
     ghost few: { used ≤ 127 },
+}
+
+impl Row {
+    /// Whether a count lies within the width.
+    pub(crate) fn has(self, i: u16) -> bool
+        ensures { result ≡ (nat_le 1 i && nat_le i self.width) }
+    {
+        (1..=self.width).contains(&i)
+    }
 }
 
 impl Rows {
     /// No place has a row.
     pub(crate) fn none() -> Rows
-        ensures { (p : ℕ) → slice_index result.widths p ≡ 0 }
+        ensures { (p : ℕ) → (row_of result.list p).width ≡ 0 }
     {
         Rows {
-            widths: [0; 65],
-            bases: [0; 65],
+            list: [Row { base: 0, width: 0 }; 65],
             used: 0,
         }
     }
 
     /// The rows for a plan's widths.
     pub(crate) fn of(plan: &Widths) -> Rows
-        ensures { (p : ℕ) → slice_index result.widths p ≡ width_of plan.now p }
+        ensures { (p : ℕ) → (row_of result.list p).width ≡ width_of plan.now p }
     {
-        let mut widths: [u16; 65] = [0; 65];
-        let mut bases: [u16; 65] = [0; 65];
+        let mut list = [Row { base: 0, width: 0 }; 65];
         let mut used: u16 = 0;
-        for p in 0..65 {
+        for (p, row) in list.iter_mut().enumerate() {
             let width = plan.at(p);
-            widths[p] = width;
-            bases[p] = used;
-            used += (width + 63) / 64;
+            *row = Row { base: used, width };
+            used += width.div_ceil(64);
         }
         Rows {
-            widths,
-            bases,
-            used: used as usize,
+            list,
+            used: usize::from(used),
         }
     }
 
-    /// Whether the pair (p, i) lies within the widths.
-    pub(crate) fn has(&self, p: usize, i: u16) -> bool
-        ensures value { result ≡ within (λ q. slice_index self.now.widths q) p i }
-        ensures bound { result ≡ true → p < 65 }
+    /// The row of place `p`, if there is such a place.
+    pub(crate) fn get(&self, p: usize) -> Option<Row>
+        ensures { MatchOption result (65 ≤ p) (λ row. (p < 65) × (row ≡ row_of self.now.list p)) }
     {
-        if p >= 65 {
-            return false;
-        }
-        i >= 1 && i <= self.widths[p]
+        self.list.get(p).copied()
     }
 }

@@ -1,13 +1,13 @@
-ghost use Rattle.std.specs.Prelude.{◌≡◌, ℕ, ◌+◌, ◌*◌, ◌/◌, ◌<◌, ◌≤◌, true, false, ◌&&◌, ◌||◌, if◌then◌else◌, Decides, ◌==◌, nat_le, nat_lt};
+ghost use Rattle.std.specs.Prelude.{◌≡◌, ℕ, ◌+◌, ◌*◌, ◌/◌, ◌<◌, ◌≤◌, true, ◌&&◌, ◌||◌, if◌then◌else◌, length, Decides, ◌==◌, ◌≢◌, nat_le, nat_lt, slice_index};
 ghost use Rattle.bits.specs.Bit.{bit_at};
 ghost use Rattle.bit_bank.specs.Join.{joined};
 
-/// Sets one bit of a word.
-pub(crate) fn put(words: &mut [u64; 128], word: usize, bit: usize)
-    requires room { (word < 128) × (bit < 64) }
-    ensures { (a : ℕ) → bit_at words.new a ≡ (bit_at words.old a || a == (64 * word + bit)) }
+/// Sets bit `k` of the row that begins at the word `from`.
+pub(crate) fn put(words: &mut [u64; 128], from: usize, k: usize)
+    requires room { from + k / 64 < 128 }
+    ensures { (a : ℕ) → bit_at words.new a ≡ (bit_at words.old a || a == (64 * from + k)) }
 {
-    words[word] |= 1u64 << bit;
+    words[from + k / 64] |= 1u64 << (k % 64);
 }
 
 /// Clears the first `n` words.
@@ -15,9 +15,7 @@ pub(crate) fn clear(words: &mut [u64; 128], n: usize)
     requires room { n ≤ 128 }
     ensures { (a : ℕ) → bit_at words.new a ≡ (nat_le (64 * n) a && bit_at words.old a) }
 {
-    for k in 0..n {
-        words[k] = 0;
-    }
+    words[..n].fill(0);
 }
 
 /// Copies the first `n` words of `src`.
@@ -25,56 +23,53 @@ pub(crate) fn copy(dst: &mut [u64; 128], src: &[u64; 128], n: usize)
     requires room { n ≤ 128 }
     ensures { (a : ℕ) → bit_at dst.new a ≡ (if nat_lt a (64 * n) then bit_at src.now a else bit_at dst.old a) }
 {
-    for k in 0..n {
-        dst[k] = src[k];
-    }
+    dst[..n].copy_from_slice(&src[..n]);
 }
 
-/// Joins the first `n` bits of the row that begins at the word `from` of `src` into the row that begins at the word `to` of `dst`.
-pub(crate) fn join(dst: &mut [u64; 128], src: &[u64; 128], to: usize, from: usize, n: usize)
+/// Joins the first `n` bits of the row that begins at the word `from` of `src` into the row that begins at the word `to` of `dst`,
+/// each of them `UP` places up, which is 0 or 1.
+// By whole arrays and where the rows begin: of two fields of a bank, one of them for writing, no parts can be lent at once.
+pub(crate) fn join<const UP: usize>(
+    dst: &mut [u64; 128],
+    src: &[u64; 128],
+    to: usize,
+    from: usize,
+    n: usize,
+)
+    requires up { UP ≤ 1 }
     requires room { (to + n / 64 < 128) × (from + n / 64 < 128) }
-    ensures { (a : ℕ) → bit_at dst.new a ≡ joined dst.old src.now (64 * to) (64 * from) (64 * to + n) a }
+    ensures { (a : ℕ) → bit_at dst.new a ≡ joined dst.old src.now (64 * to + UP) (64 * from) (64 * to + UP + n) a }
 {
     let full = n / 64;
-    for k in 0..full {
-        dst[to + k] |= src[from + k];
+    let mut over = 0;
+    for (k, word) in src[from..from + full].iter().enumerate() {
+        dst[to + k] |= (word << UP) | over;
+        over = (word >> 1) >> (63 - UP);
     }
-    dst[to + full] |= src[from + full] & ((1u64 << (n % 64)) - 1);
+    let last = src[from + full] & ((1u64 << (n % 64)) - 1);
+    dst[to + full] |= (last << UP) | over;
 }
 
-/// The same, each bit one place up.
-pub(crate) fn join_raised(dst: &mut [u64; 128], src: &[u64; 128], to: usize, from: usize, n: usize)
-    requires room { (to + n / 64 < 128) × (from + n / 64 < 128) }
-    ensures { (a : ℕ) → bit_at dst.new a ≡ joined dst.old src.now (64 * to + 1) (64 * from) (64 * to + 1 + n) a }
+/// Whether one of the words has a bit.
+fn any_word(words: &[u64]) -> bool
+    ensures { Decides result ((k : ℕ) × (k < length words.now) × (slice_index words.now k ≢ 0)) }
 {
-    let full = n / 64;
-    let mut over: u64 = 0;
-    for k in 0..full {
-        let w = src[from + k];
-        dst[to + k] |= (w << 1) | over;
-        over = w >> 63;
-    }
-    let w = src[from + full] & ((1u64 << (n % 64)) - 1);
-    dst[to + full] |= (w << 1) | over;
+    words.iter().any(|word| *word != 0)
 }
 
-/// Whether one of the bits `lo..hi` of the row that begins at the word `from` of `src` is set.
-pub(crate) fn any(src: &[u64; 128], from: usize, lo: usize, hi: usize) -> bool
-    requires room { from + hi / 64 < 128 }
-    ensures { Decides result ((x : ℕ) × (lo ≤ x) × (x < hi) × (bit_at src.now (64 * from + x) ≡ true)) }
+/// Whether one of the bits `lo..hi` of the row `src` is set.
+pub(crate) fn any(src: &[u64], lo: usize, hi: usize) -> bool
+    requires room { hi / 64 < length src.now }
+    ensures { Decides result ((x : ℕ) × (lo ≤ x) × (x < hi) × (bit_at src.now x ≡ true)) }
 {
     if lo >= hi {
         return false;
     }
-    let last = hi / 64;
-    let mut k = lo / 64;
-    let mut w = (src[from + k] >> (lo % 64)) << (lo % 64);
-    while k < last {
-        if w != 0 {
-            return true;
-        }
-        k += 1;
-        w = src[from + k];
+    let (first, last) = (lo / 64, hi / 64);
+    let head = (src[first] >> (lo % 64)) << (lo % 64);
+    let below = (1u64 << (hi % 64)) - 1;
+    if first == last {
+        return head & below != 0;
     }
-    w & ((1u64 << (hi % 64)) - 1) != 0
+    head != 0 || any_word(&src[first + 1..last]) || src[last] & below != 0
 }

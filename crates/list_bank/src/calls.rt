@@ -1,5 +1,5 @@
 ghost use Rattle.list_bank.specs.Means.{list_means};
-ghost use Rattle.list_bank.specs.Puts.{list_facts};
+ghost use Rattle.list_bank.specs.Facts.{list_facts};
 
 use crate::bank::ListBank;
 use crate::pairs::PairList;
@@ -27,33 +27,31 @@ impl Bank for ListBank {
     }
 
     fn add(&mut self, p: usize, i: u16) -> Result<(), Refusal> {
-        if p >= 256 {
-            return Ok(()); // no such place: the pair is left out
-        }
         let width = width_in(&self.plan, p);
-        self.back.insert_up_to(p as u8, u32::from(i), width)
+        match u8::try_from(p) {
+            Ok(place) => self.back.insert_up_to(place, u32::from(i), width),
+            Err(_) => Ok(()), // no such place: the pair is left out
+        }
     }
 
     fn carry(&mut self, p: usize, q: usize, raise: Raise) -> Result<(), Refusal> {
-        if p >= 256 || q >= 256 {
+        let (Ok(from), Ok(to)) = (u8::try_from(p), u8::try_from(q)) else {
             return Ok(()); // no such place: nothing to carry
-        }
+        };
         let width = width_in(&self.plan, q);
-        self.back = self
-            .back
-            .insert_moved(&self.front, p as u8, q as u8, raise.by(), width)?;
-        Ok(())
+        self.back
+            .insert_moved(&self.front, from, to, u16::from(raise), width)
     }
 
     fn look(&self, p: usize, low: u16, high: u16) -> bool {
-        if p >= 256 {
-            return false;
+        match u8::try_from(p) {
+            Ok(place) => self.front.any(place, low, high),
+            Err(_) => false,
         }
-        self.front.any(p as u8, low, high)
     }
 
     fn turn(&mut self) {
-        self.front = self.back;
+        self.front.copy_from(&self.back);
         self.drop_back();
     }
 

@@ -1,3 +1,3 @@
 pub mod Places
 pub mod Means
-pub mod Layers
+pub mod Facts

@@ -1,5 +1,5 @@
 ghost use Rattle.mask_layer.specs.Means.{masked};
-ghost use Rattle.mask_layer.specs.Layers.{masked_facts};
+ghost use Rattle.mask_layer.specs.Facts.{masked_facts};
 
 use crate::layer::MaskLayer;
 use crate::places;
@@ -35,34 +35,32 @@ impl<B: Bank> Bank for MaskLayer<B> {
         }
         if i == 1 {
             self.back = self.back.with(p);
-            return Ok(()); // kept here, whatever the bank below can hold
         }
-        Ok(())
+        Ok(()) // kept here, whatever the bank below can hold
     }
 
     fn carry(&mut self, p: usize, q: usize, raise: Raise) -> Result<(), Refusal> {
         if places::is_narrow(&self.plan, q) {
             // Count 1 comes from count 1 as it is; raised, no count becomes 1.
-            if raise.by() == 0 && self.look(p, 1, 1) {
+            if matches!(raise, Raise::Nothing) && self.look(p, 1, 1) {
                 self.back = self.back.with(q);
-                return Ok(());
             }
-            return Ok(());
+            Ok(())
+        } else if !places::is_narrow(&self.plan, p) {
+            self.below.carry(p, q, raise)
+        } else if self.front.has(p) {
+            self.below.add(q, 1 + u16::from(raise))
+        } else {
+            Ok(())
         }
-        if !places::is_narrow(&self.plan, p) {
-            return self.below.carry(p, q, raise);
-        }
-        if self.front.has(p) {
-            return self.below.add(q, 1 + raise.by());
-        }
-        Ok(())
     }
 
     fn look(&self, p: usize, low: u16, high: u16) -> bool {
-        if !places::is_narrow(&self.plan, p) {
-            return self.below.look(p, low, high);
+        if places::is_narrow(&self.plan, p) {
+            self.front.has(p) && (low..=high).contains(&1)
+        } else {
+            self.below.look(p, low, high)
         }
-        self.front.has(p) && low <= 1 && 1 <= high
     }
 
     fn turn(&mut self) {

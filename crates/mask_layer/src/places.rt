@@ -37,18 +37,16 @@ impl PlaceSet {
     pub(crate) fn with(self, p: usize) -> PlaceSet
         ensures { (q : ℕ) → placed result q ≡ (placed self q || (q == p && nat_le q 64)) }
     {
-        if p == 0 {
-            return PlaceSet {
+        match p {
+            0 => PlaceSet {
                 start: true,
-                rest: self.rest,
-            };
-        }
-        if p > 64 {
-            return self;
-        }
-        PlaceSet {
-            start: self.start,
-            rest: self.rest.union(Set64::only(p as u8 - 1)),
+                ..self
+            },
+            1..=64 => PlaceSet {
+                rest: self.rest.union(Set64::only(p as u8 - 1)),
+                ..self
+            },
+            _ => self,
         }
     }
 
@@ -56,9 +54,10 @@ impl PlaceSet {
     pub(crate) fn has(self, p: usize) -> bool
         ensures { result ≡ placed self p }
     {
-        if p == 0 {
-            return self.start;
+        match p {
+            0 => self.start,
+            1..=64 => self.rest.has(p as u8 - 1),
+            _ => false,
         }
-        p <= 64 && self.rest.has(p as u8 - 1)
     }
 }

@@ -1,6 +1,7 @@
 use bits::Set64;
 
 /// A set of places: the start by a flag, place p from 1 to 64 by the number p - 1.
+// By a flag: there are 65 places, one more than a `Set64` has room for, and twice as many bits would make it no plainer.
 #[derive(Clone, Copy)]
 pub struct PlaceSet {
     pub(crate) start: bool,

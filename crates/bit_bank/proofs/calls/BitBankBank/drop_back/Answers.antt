@@ -1,7 +1,7 @@
 use Rattle.std.proofs.Common.{refl, ◌∙◌, arith}
 use Rattle.std.proofs.lemmas.Bool.Decides.{nat_tests}
-use Rattle.bit_bank.specs.Stand.{no_pairs}
-use Rattle.bit_bank.specs.Puts.{keeps_rows}
+use Rattle.bit_bank.proofs.Stand.{no_pairs}
+use Rattle.bit_bank.proofs.Puts.{keeps_rows}
 use Rattle.bit_bank.proofs.calls.BitBankBank.drop_back.Goals as goal
 
 pub returns : goal.returns

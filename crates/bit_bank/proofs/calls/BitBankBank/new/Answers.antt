@@ -1,5 +1,5 @@
 use mathlib.Core.Path.{fun_ext}
-use Rattle.bit_bank.specs.Stand.{zeros}
+use Rattle.bit_bank.proofs.Stand.{zeros}
 use Rattle.bit_bank.proofs.calls.BitBankBank.new.Goals as goal
 
 pub returns : goal.returns

@@ -1,7 +1,7 @@
 use Rattle.std.proofs.Common.{◌∙◌, arith}
 use Rattle.std.proofs.lemmas.Bool.Decides.{nat_tests}
-use Rattle.bit_bank.specs.Stand.{no_pairs, same_words}
-use Rattle.bit_bank.specs.Puts.{keeps_rows}
+use Rattle.bit_bank.proofs.Stand.{no_pairs, same_words}
+use Rattle.bit_bank.proofs.Puts.{keeps_rows}
 use Rattle.bit_bank.proofs.calls.BitBankBank.turn.Goals as goal
 
 pub returns : goal.returns

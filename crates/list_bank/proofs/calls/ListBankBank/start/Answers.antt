@@ -1,5 +1,5 @@
 use Rattle.std.proofs.Common.{refl, rules}
-use Rattle.list_bank.specs.Puts.{short_start}
+use Rattle.list_bank.proofs.Puts.{short_start}
 use Rattle.list_bank.proofs.calls.ListBankBank.start.Goals as goal
 
 pub returns : goal.returns

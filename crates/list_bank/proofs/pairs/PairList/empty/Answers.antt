@@ -1,7 +1,7 @@
-use Rattle.std.proofs.Common.{refl}
+use Rattle.std.proofs.Common.{ℕ, List, length, ap}
 use Rattle.list_bank.specs.Listed.{listed}
 use Rattle.list_bank.proofs.pairs.PairList.empty.Goals as goal
 
 pub returns : goal.returns
 unfolding listed
-returns c = refl
+returns c = ap (λ (xs : List (ℕ × ℕ)). listed xs (length xs)) c.new.ensures

@@ -1,7 +1,7 @@
 use Rattle.std.proofs.Common.{◌≡◌, true, sym, ◌∙◌}
 use Rattle.banks.specs.Pairs.{only}
 use Rattle.mask_layer.specs.Places.{narrow, placed}
-use Rattle.mask_layer.specs.Layers.{below_put, own_put, nothing_put, only_away, one_within, one_wide, narrow_place, one_of, none_of, with_of}
+use Rattle.mask_layer.proofs.Layers.{below_put, own_put, nothing_put, only_away, one_within, one_wide, narrow_place, one_of, none_of, with_of}
 use Rattle.mask_layer.proofs.calls.MaskLayerBank.add.Goals as goal
 
 pub returns-then-not-is_narrow : goal.returns-then-not-is_narrow

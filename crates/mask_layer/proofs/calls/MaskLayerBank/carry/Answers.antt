@@ -6,7 +6,7 @@ use Rattle.banks.specs.declared.Raise.{Raise}
 use Rattle.banks.specs.declared.Raise.TheVariants.{Nothing, One}
 use Rattle.mask_layer.specs.Places.{narrow, placed}
 use Rattle.mask_layer.specs.Means.{masked}
-use Rattle.mask_layer.specs.Layers.{carry_own, carry_none, carry_below, carry_one, carry_empty, look_one, no_zero, with_of, narrow_place}
+use Rattle.mask_layer.proofs.Layers.{carry_own, carry_none, carry_below, carry_one, carry_empty, look_one, no_zero, with_of, narrow_place}
 use Rattle.mask_layer.proofs.calls.MaskLayerBank.carry.Goals as goal
 use Rattle.mask_layer.proofs.calls.MaskLayerBank.carry.Goals.{else-by-eq0-via-then-by-eq0+else-look, else-by-eq0-via-else-by-eq0}
 

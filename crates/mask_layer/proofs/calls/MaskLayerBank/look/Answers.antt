@@ -1,6 +1,6 @@
 use Rattle.std.proofs.Common.{sym, ◌∙◌, arith}
 use Rattle.std.proofs.lemmas.Bool.Decides.{nat_tests}
-use Rattle.mask_layer.specs.Layers.{looked_own}
+use Rattle.mask_layer.proofs.Layers.{looked_own}
 use Rattle.mask_layer.proofs.calls.MaskLayerBank.look.Goals as goal
 
 pub returns-then-low-le1 : goal.returns-then-low-le1

@@ -1,6 +1,6 @@
 use Rattle.std.proofs.Common.{ap, ◌∙◌}
 use Rattle.mask_layer.specs.Places.{placed}
-use Rattle.mask_layer.specs.Layers.{turned}
+use Rattle.mask_layer.proofs.Layers.{turned}
 use Rattle.mask_layer.proofs.calls.MaskLayerBank.turn.Goals as goal
 
 pub returns : goal.returns

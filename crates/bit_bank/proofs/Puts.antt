@@ -1,23 +1,20 @@
 -- What the calls of a bit bank do to its meaning.
-use Rattle.std.specs.Prelude.{◌≡◌, ℕ, ◌+◌, ◌-◌, ◌*◌, ◌<◌, ◌≤◌, min, false, ◌&&◌, ◌||◌, List, Ok, ◌==◌, slice_index, refl}
+use Rattle.std.specs.Prelude.{◌≡◌, ℕ, ◌+◌, ◌-◌, ◌*◌, ◌<◌, ◌≤◌, min, false, ◌&&◌, ◌||◌, List, Ok, ◌==◌, refl}
 use Rattle.std.proofs.Common.{sym, ap, subst, ◌∙◌, ⊎_elim, arith}
 use Rattle.std.proofs.lemmas.Bool.{cases_eq}
 use Rattle.std.proofs.lemmas.Bool.Decides.{nat_tests}
 use Rattle.bits.specs.Bit.{bit_at}
 use Rattle.banks.specs.Pairs.{Pairs, none, only, within, moved, ◌∪◌, ◌∩◌, ◌⊆◌}
-use Rattle.banks.specs.Meaning.{Facts, Keeps, Put, grown}
+use Rattle.banks.specs.Meaning.{Keeps, Put, grown}
 use Rattle.banks.specs.Raises.{raise_by}
 use Rattle.banks.specs.declared.Raise.{Raise}
 use Rattle.banks.proofs.Sets.{same_pairs, at_pair, nothing_new}
 use Rattle.bit_bank.specs.declared.rows.Rows.{Rows}
+use Rattle.bit_bank.specs.Row.{row_of}
 use Rattle.bit_bank.specs.declared.bank.BitBank.{BitBank}
 use Rattle.bit_bank.specs.Join.{joined}
 use Rattle.bit_bank.specs.Means.{row_widths, pairs_in, bit_means}
-use Rattle.bit_bank.specs.Stand.{put_pair, join_row}
-
--- the two facts about what can be held
-pub bit_facts : Facts bit_means
-bit_facts = record { empty = λ b s p i e. grind arith; fewer = λ b s t k st h p i e. h p i (st p i e) }
+use Rattle.bit_bank.proofs.Stand.{put_pair, join_row}
 
 -- the widths stay, and so does what can be held, where the rows stay
 pub keeps_rows : (b : BitBank) (front back : List ℕ) → Keeps bit_means b record { rows = b.rows; front = front; back = back }
@@ -54,13 +51,11 @@ only_start ws s w e = same_pairs (s ∪ (only 0 1 ∩ within ws)) (only 0 1) (λ
     (cases_eq p 0))
 
 -- the start pair alone, put into cleared words
-pub start_pair : (rows : Rows) (ws after : List ℕ) → slice_index rows.widths 0 ≡ 1 → pairs_in rows ws ≡ none
-    → ((a : ℕ) → bit_at after a ≡ (bit_at ws a || a == 64 * slice_index rows.bases 0 + 0))
+pub start_pair : (rows : Rows) (ws after : List ℕ) → (row_of rows.list 0).width ≡ 1 → pairs_in rows ws ≡ none
+    → ((a : ℕ) → bit_at after a ≡ (bit_at ws a || a == 64 * (row_of rows.list 0).base + 0))
     → pairs_in rows after ≡ only 0 1
 start_pair rows ws after w e put =
-    put_pair rows ws after 0 1 record { place = omega arith; low = omega arith; high = omega arith }
-    (λ a. put a ∙ ap (λ (x : ℕ). bit_at ws a || a == x) (let f : 64 * slice_index rows.bases 0 + 0 ≡ 64 * (slice_index rows.bases 0 + 0) + 0 = omega arith in f))
-    ∙ only_start (row_widths rows) (pairs_in rows ws) w e
+    put_pair rows ws after 0 1 record { place = omega arith; low = omega arith; high = omega arith } put ∙ only_start (row_widths rows) (pairs_in rows ws) w e
 
 -- the start pair can be held
 pub holds_start : (ws : ℕ → ℕ) → ws 0 ≡ 1 → only 0 1 ⊆ within ws
@@ -71,12 +66,12 @@ holds_start ws w p i e = ⊎_elim
 
 -- a carry that joined the row of p into that of q
 module _ (b : BitBank) (raise : Raise) (p q s n to end : ℕ) (after : List ℕ) (hp : p < 65) (hq : q < 65) (s1 : s ≤ 1) (by : raise_by raise ≡ s)
-    (n-is : n ≡ min (slice_index b.rows.widths p) (slice_index b.rows.widths q - raise_by raise))
-    (to_is : to ≡ 64 * slice_index b.rows.bases q + s) (end_is : end ≡ 64 * slice_index b.rows.bases q + s + n)
-    (merged : (a : ℕ) → bit_at after a ≡ joined b.back b.front to (64 * slice_index b.rows.bases p) end a) where
+    (n-is : n ≡ min ((row_of b.rows.list p).width) ((row_of b.rows.list q).width - raise_by raise))
+    (to_is : to ≡ 64 * (row_of b.rows.list q).base + s) (end_is : end ≡ 64 * (row_of b.rows.list q).base + s + n)
+    (merged : (a : ℕ) → bit_at after a ≡ joined b.back b.front to (64 * (row_of b.rows.list p).base) end a) where
   pub carry_done : Put bit_means (moved (bit_means.front b) p q (raise_by raise)) b (Ok tt) record { rows = b.rows; front = b.front; back = after }
   carry_done =
       subst (λ (x : ℕ). Put bit_means (moved (bit_means.front b) p q x) b (Ok tt) record { rows = b.rows; front = b.front; back = after }) (sym by)
       (put_done b (moved (bit_means.front b) p q s) after
       (join_row b.rows b.front b.back after p q s n to end hp hq s1
-      (n-is ∙ ap (λ (x : ℕ). min (slice_index b.rows.widths p) (slice_index b.rows.widths q - x)) by) to_is end_is merged))
+      (n-is ∙ ap (λ (x : ℕ). min ((row_of b.rows.list p).width) ((row_of b.rows.list q).width - x)) by) to_is end_is merged))

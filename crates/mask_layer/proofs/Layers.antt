@@ -106,13 +106,6 @@ look_one F p i false d = ⊎_elim
     (cases_Bool (F p i))
 
 module _ {B : Type 0} (m : Meaning B) (f : Facts m) where
-  -- the two facts about what can be held
-  pub masked_facts : Facts (masked m)
-  masked_facts = record {
-    empty = λ w h. f.fewer w.below (wider w.plan none) none h.below (λ p i e. grind arith) (f.empty w.below h.below);
-    fewer = λ w s t h st. f.fewer w.below (wider w.plan s) (wider w.plan t) h.below (λ p i e. let x = st p i in grind arith);
-  }
-
   module _ (w : MaskLayer B) (s : Stands m w) where
     -- new pairs go to the bank below where none of them is at a place of width 1
     module _ (b : B) (new : Pairs) (away : (a j : ℕ) → narrow w.plan a ≡ true → new a j ≡ false) where

@@ -1,34 +1,34 @@
 -- What words stand for when some of their bits change.
-use Rattle.std.specs.Prelude.{◌≡◌, ℕ, ◌+◌, ◌-◌, ◌*◌, ◌/◌, ◌%◌, ◌<◌, ◌≤◌, min, Bool, true, false, ◌&&◌, ◌||◌, ◌⊎◌, List, replicate, Decides, ◌==◌, ◌≢◌, nat_le, slice_index, slice_index_or, refl}
+use Rattle.std.specs.Prelude.{◌≡◌, ℕ, ◌+◌, ◌-◌, ◌*◌, ◌<◌, ◌≤◌, min, Bool, true, false, ◌&&◌, ◌||◌, ◌⊎◌, List, replicate, Decides, ◌==◌, ◌≢◌, nat_le, refl}
 use Rattle.std.proofs.Common.{sym, ap, ◌∙◌, ⊎_elim, arith}
 use Rattle.std.proofs.lemmas.List.{get_or_past}
 use Rattle.std.proofs.lemmas.Bool.{cases_lt, cases_eq, cases_Bool, and_parts, leb-true, false≢true}
 use Rattle.std.proofs.lemmas.Bool.Decides.{nat_tests}
-use Rattle.bits.specs.Bit.{bit, bit_at}
-use Rattle.bits.proofs.Laws.{bit_zero}
-use Rattle.bits.proofs.Words.{bit_at_is}
-use Rattle.widths.proofs.Rows.{get_or_zeros}
+use Rattle.bits.specs.Bit.{bit_at}
 use Rattle.banks.specs.Pairs.{Pairs, none, only, within, moved, ◌∪◌, ◌∩◌}
 use Rattle.banks.proofs.Sets.{same_pairs}
+use Rattle.bit_bank.specs.declared.rows.Row.{Row}
 use Rattle.bit_bank.specs.declared.rows.Rows.{Rows}
+use Rattle.bit_bank.specs.Row.{row_of}
 use Rattle.bit_bank.specs.Join.{joined}
+use Rattle.bit_bank.proofs.Parts.{bit_at_zeros}
 use Rattle.bit_bank.specs.Means.{row_widths, pairs_in}
 
 -- a number from 65 on is no place, and has no width
 pub width_past : (rows : Rows) (p : ℕ) → 65 ≤ p → row_widths rows p ≡ 0
-width_past rows p h = get_or_past rows.widths p 0 (let e = rows.long in omega arith)
+width_past rows p h = ap (λ (r : Row). r.width) (get_or_past rows.list p record { base = 0; width = 0 } (let e = rows.long in omega arith))
 
 -- what a pair within the widths tells
 pub record Inside (rows : Rows) (p i : ℕ) : Type 0 where
   pub place : p < 65
   pub low : 1 ≤ i
-  pub high : i ≤ slice_index rows.widths p
+  pub high : i ≤ (row_of rows.list p).width
 
 pub inside : (rows : Rows) (p i : ℕ) → within (row_widths rows) p i ≡ true → Inside rows p i
 inside rows p i h =
-    let g = and_parts (nat_le 1 i) (nat_le i (slice_index rows.widths p)) h in
+    let g = and_parts (nat_le 1 i) (nat_le i ((row_of rows.list p).width)) h in
     let x : 1 ≤ i = leb-true 1 i g.0 in
-    let y : i ≤ slice_index_or rows.widths p 0 = leb-true i (slice_index rows.widths p) g.1 in
+    let y : i ≤ (row_of rows.list p).width = leb-true i ((row_of rows.list p).width) g.1 in
     let l : p < 65 = ⊎_elim
     (λ (l : p < 65). l)
     (λ (l : 65 ≤ p). let z = width_past rows p l in let no_way : ⊥ = omega arith in absurd no_way)
@@ -37,33 +37,33 @@ inside rows p i h =
 
 -- the sets are equal where each pair within the widths is in both or in neither
 pub same_inside : (rows : Rows) (ws : List ℕ) (s : Pairs)
-    → ((p i : ℕ) → Inside rows p i → bit_at ws (64 * slice_index rows.bases p + (i - 1)) ≡ s p i)
+    → ((p i : ℕ) → Inside rows p i → bit_at ws (64 * (row_of rows.list p).base + (i - 1)) ≡ s p i)
     → ((p i : ℕ) → within (row_widths rows) p i ≡ false → s p i ≡ false)
     → pairs_in rows ws ≡ s
 unfolding pairs_in
 same_inside rows ws s here out = same_pairs (pairs_in rows ws) s (λ p i. ⊎_elim
-    (λ (h : within (row_widths rows) p i ≡ true). ap (λ (t : Bool). t && bit_at ws (64 * slice_index rows.bases p + (i - 1))) h ∙ here p i (inside rows p i h))
-    (λ (h : within (row_widths rows) p i ≡ false). ap (λ (t : Bool). t && bit_at ws (64 * slice_index rows.bases p + (i - 1))) h ∙ sym (out p i h))
+    (λ (h : within (row_widths rows) p i ≡ true). ap (λ (t : Bool). t && bit_at ws (64 * (row_of rows.list p).base + (i - 1))) h ∙ here p i (inside rows p i h))
+    (λ (h : within (row_widths rows) p i ≡ false). ap (λ (t : Bool). t && bit_at ws (64 * (row_of rows.list p).base + (i - 1))) h ∙ sym (out p i h))
     (cases_Bool (within (row_widths rows) p i)))
 
 -- a pair within the widths is in the set where its bit is set, and no other pair is
-pub pairs_in_inside : (rows : Rows) (ws : List ℕ) (p i : ℕ) → Inside rows p i → pairs_in rows ws p i ≡ bit_at ws (64 * slice_index rows.bases p + (i - 1))
+pub pairs_in_inside : (rows : Rows) (ws : List ℕ) (p i : ℕ) → Inside rows p i → pairs_in rows ws p i ≡ bit_at ws (64 * (row_of rows.list p).base + (i - 1))
 unfolding pairs_in
 pairs_in_inside rows ws p i h = let a = h.low in let b = h.high in grind (arith, nat_tests)
 
 pub pairs_in_outside : (rows : Rows) (ws : List ℕ) (p i : ℕ) → within (row_widths rows) p i ≡ false → pairs_in rows ws p i ≡ false
 unfolding pairs_in
-pairs_in_outside rows ws p i h = ap (λ (t : Bool). t && bit_at ws (64 * slice_index rows.bases p + (i - 1))) h
+pairs_in_outside rows ws p i h = ap (λ (t : Bool). t && bit_at ws (64 * (row_of rows.list p).base + (i - 1))) h
 
 -- what stands lies within the widths
 pub stands_inside : (rows : Rows) (ws : List ℕ) (p i : ℕ) → pairs_in rows ws p i ≡ true → Inside rows p i
 unfolding pairs_in
-stands_inside rows ws p i h = inside rows p i (and_parts (within (row_widths rows) p i) (bit_at ws (64 * slice_index rows.bases p + (i - 1))) h).0
+stands_inside rows ws p i h = inside rows p i (and_parts (within (row_widths rows) p i) (bit_at ws (64 * (row_of rows.list p).base + (i - 1))) h).0
 
 -- where no bit in use is set, no pair stands
 pub no_pairs : (rows : Rows) (ws : List ℕ) → ((a : ℕ) → a < 64 * rows.used → bit_at ws a ≡ false) → pairs_in rows ws ≡ none
 no_pairs rows ws h = same_inside rows ws none
-    (λ p i k. let a = k.low in let b = k.high in let r = rows.room p k.place in h (64 * slice_index rows.bases p + (i - 1)) (omega arith))
+    (λ p i k. let a = k.low in let b = k.high in let r = rows.room p k.place in h (64 * (row_of rows.list p).base + (i - 1)) (omega arith))
     (λ p i k. refl)
 
 -- words of which the bits in use are the same stand for the same pairs
@@ -71,27 +71,26 @@ pub same_words : (rows : Rows) (ws vs : List ℕ) → ((a : ℕ) → a < 64 * ro
 same_words rows ws vs h = same_inside rows ws (pairs_in rows vs)
     (λ p i k.
     let a = k.low in let b = k.high in let r = rows.room p k.place in
-    h (64 * slice_index rows.bases p + (i - 1)) (omega arith) ∙ sym (pairs_in_inside rows vs p i k))
+    h (64 * (row_of rows.list p).base + (i - 1)) (omega arith) ∙ sym (pairs_in_inside rows vs p i k))
     (pairs_in_outside rows vs)
 
 -- words that are 0 stand for no pair
 pub zeros : (rows : Rows) (n : ℕ) → pairs_in rows (replicate n 0) ≡ none
-zeros rows n = no_pairs rows (replicate n 0) (λ a h.
-    bit_at_is (replicate n 0) a ∙ ap (λ (x : ℕ). bit x (a % 64)) (get_or_zeros n (a / 64)) ∙ bit_zero (a % 64))
+zeros rows n = no_pairs rows (replicate n 0) (λ a h. bit_at_zeros n a)
 
 -- the bit of one pair within the widths is set
 module _ (rows : Rows) (ws after : List ℕ) (q j : ℕ) (there : Inside rows q j)
-    (put : (a : ℕ) → bit_at after a ≡ (bit_at ws a || a == 64 * (slice_index rows.bases q + (j - 1) / 64) + (j - 1) % 64)) where
+    (put : (a : ℕ) → bit_at after a ≡ (bit_at ws a || a == 64 * (row_of rows.list q).base + (j - 1))) where
   pub put_pair : pairs_in rows after ≡ (pairs_in rows ws ∪ (only q j ∩ within (row_widths rows)))
   put_pair = same_inside rows after (pairs_in rows ws ∪ (only q j ∩ within (row_widths rows)))
       (λ p i k.
-      let m = put (64 * slice_index rows.bases p + (i - 1)) in
+      let m = put (64 * (row_of rows.list p).base + (i - 1)) in
       let old = pairs_in_inside rows ws p i k in
       let a = k.low in let b = k.high in let e = there.low in let d = there.high in
       ⊎_elim
       (λ (lt : p < q). let f = rows.apart p q lt there.place in grind (arith, nat_tests))
       (λ (le : q ≤ p). ⊎_elim
-      (λ (e : p ≡ q). let f = ap (λ (z : ℕ). slice_index rows.bases z) e in grind (arith, nat_tests))
+      (λ (e : p ≡ q). let f = ap (λ (z : ℕ). (row_of rows.list z).base) e in grind (arith, nat_tests))
       (λ (ne : p ≡ q → ⊥). let f = rows.apart q p (omega arith) k.place in grind (arith, nat_tests))
       (cases_eq p q))
       (cases_lt p q))
@@ -99,19 +98,19 @@ module _ (rows : Rows) (ws after : List ℕ) (q j : ℕ) (there : Inside rows q 
 
 -- the row of p is joined into the row of q, each bit s places up, as far as both widths allow
 module _ (rows : Rows) (front back after : List ℕ) (p q s n to end : ℕ) (hp : p < 65) (hq : q < 65) (s1 : s ≤ 1)
-    (n-is : n ≡ min (slice_index rows.widths p) (slice_index rows.widths q - s))
-    (to_is : to ≡ 64 * slice_index rows.bases q + s) (end_is : end ≡ 64 * slice_index rows.bases q + s + n)
-    (merged : (a : ℕ) → bit_at after a ≡ joined back front to (64 * slice_index rows.bases p) end a) where
+    (n-is : n ≡ min ((row_of rows.list p).width) ((row_of rows.list q).width - s))
+    (to_is : to ≡ 64 * (row_of rows.list q).base + s) (end_is : end ≡ 64 * (row_of rows.list q).base + s + n)
+    (merged : (a : ℕ) → bit_at after a ≡ joined back front to (64 * (row_of rows.list p).base) end a) where
   -- at q, what is joined in is what is moved
   same_place : (i : ℕ) → pairs_in rows after q i ≡ (pairs_in rows back ∪ (moved (pairs_in rows front) p q s ∩ within (row_widths rows))) q i
   unfolding pairs_in
-  same_place i = let m = merged (64 * slice_index rows.bases q + (i - 1)) in grind (arith, nat_tests)
+  same_place i = let m = merged (64 * (row_of rows.list q).base + (i - 1)) in grind (arith, nat_tests)
 
   -- at other places nothing changes
   other_place : (r i : ℕ) → (r ≢ q) → Inside rows r i
-      → bit_at after (64 * slice_index rows.bases r + (i - 1)) ≡ (pairs_in rows back ∪ (moved (pairs_in rows front) p q s ∩ within (row_widths rows))) r i
+      → bit_at after (64 * (row_of rows.list r).base + (i - 1)) ≡ (pairs_in rows back ∪ (moved (pairs_in rows front) p q s ∩ within (row_widths rows))) r i
   other_place r i ne k =
-      let m = merged (64 * slice_index rows.bases r + (i - 1)) in
+      let m = merged (64 * (row_of rows.list r).base + (i - 1)) in
       let old = pairs_in_inside rows back r i k in
       let a = k.low in let b = k.high in
       ⊎_elim
@@ -141,8 +140,8 @@ nothing_moved rows front p q s far r i = ⊎_elim
     far
 
 -- a count from low to high stands where one of the bits from low - 1 on, below high and the width, is set
-pub look_row : (rows : Rows) (front : List ℕ) (p low high l h : ℕ) (r : Bool) → p < 65 → l ≡ low - 1 → h ≡ min high (slice_index rows.widths p)
-    → Decides r ((x : ℕ) × (l ≤ x) × (x < h) × (bit_at front (64 * slice_index rows.bases p + x) ≡ true))
+pub look_row : (rows : Rows) (front : List ℕ) (p low high l h : ℕ) (r : Bool) → p < 65 → l ≡ low - 1 → h ≡ min high ((row_of rows.list p).width)
+    → Decides r ((x : ℕ) × (l ≤ x) × (x < h) × (bit_at front (64 * (row_of rows.list p).base + x) ≡ true))
     → Decides r ((i : ℕ) × (low ≤ i) × (i ≤ high) × (pairs_in rows front p i ≡ true))
 look_row rows front p low high l h r place el eh d = (
   (λ t.
@@ -152,7 +151,7 @@ look_row rows front p low high l h r place el eh d = (
         omega arith,
         omega arith,
         pairs_in_inside rows front p (x.0 + 1) record { place = place; low = omega arith; high = omega arith }
-            ∙ ap (λ (y : ℕ). bit_at front (64 * slice_index rows.bases p + y)) e ∙ x.3,
+            ∙ ap (λ (y : ℕ). bit_at front (64 * (row_of rows.list p).base + y)) e ∙ x.3,
       )),
   (λ s.
       let k = stands_inside rows front p s.0 s.3 in

@@ -6,7 +6,7 @@ use Rattle.banks.specs.Pairs.{Pairs, only, moved, ◌∪◌, ◌∩◌, ◌⊆�
 use Rattle.banks.proofs.Sets.{same_pairs, at_pair}
 use Rattle.list_bank.specs.Listed.{listed, Short}
 use Rattle.list_bank.specs.Means.{up_to}
-use Rattle.list_bank.specs.Lists.{listed_rises}
+use Rattle.list_bank.proofs.Lists.{listed_rises}
 
 -- a subset of a short set is short
 pub short_fewer : (s t : Pairs) → s ⊆ t → Short t → Short s

@@ -7,21 +7,13 @@ use Rattle.refusals.specs.declared.Refusal.{Refusal}
 use Rattle.widths.specs.Width.{width_in}
 use Rattle.widths.proofs.Rows.{width_in_past}
 use Rattle.banks.specs.Pairs.{Pairs, only, moved, within, ◌∪◌, ◌∩◌}
-use Rattle.banks.specs.Meaning.{Facts, Put}
+use Rattle.banks.specs.Meaning.{Put}
 use Rattle.banks.proofs.Sets.{same_pairs, nothing_new}
 use Rattle.list_bank.specs.declared.pairs.PairList.{PairList}
 use Rattle.list_bank.specs.declared.bank.ListBank.{ListBank}
 use Rattle.list_bank.specs.Listed.{listed, Short}
 use Rattle.list_bank.specs.Means.{pairs_of, up_to, Gained, list_means}
-use Rattle.list_bank.specs.Inserts.{short_list, listed_past}
-use Rattle.list_bank.specs.Moves.{short_fewer}
-
--- the two facts about what can be held
-pub list_facts : Facts list_means
-list_facts = record {
-  empty = λ b k. ([], (let z : 0 ≤ 256 = omega arith in z), (λ p i e. grind arith));
-  fewer = λ b s t k st h. short_fewer s t st h;
-}
+use Rattle.list_bank.proofs.Inserts.{short_list, listed_past}
 
 -- (0, 1) alone can be held
 pub short_start : Short (only 0 1)

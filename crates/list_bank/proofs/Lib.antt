@@ -1,0 +1,5 @@
+mod Order
+mod Lists
+mod Inserts
+mod Moves
+mod Puts
