@@ -1,5 +1,5 @@
 -- What the search keeps true of the marks while it lowers them.
-use Rattle.std.specs.Prelude.{◌≡◌, ℕ, ◌+◌, ◌<◌, ◌≤◌, Bool, true, false, cond, ◌⊎◌, List, [], ◌∷◌, ◌==◌, slice_index}
+use Rattle.std.specs.Prelude.{◌≡◌, ℕ, ◌+◌, ◌<◌, ◌≤◌, Bool, true, false, cond, ◌⊎◌, List, [], ◌∷◌, ◌==◌, length, slice_index}
 use Rattle.widths.specs.Width.{widths_of, base_of}
 use Rattle.distances.specs.declared.graph.Graph.{Graph}
 use Rattle.distances.specs.Graphs.{Pair, Link, accepting, mark_in}
@@ -46,3 +46,14 @@ pub record Swept (g : Graph) (old new : List ℕ) (V : ℕ → ℕ → Type 0) (
   pub behind : Behind g old new
   pub falls : moved ≡ true → rest new < rest old
   pub still : moved ≡ false → (new ≡ old) × ((p i : ℕ) → V p i → Pair g p i → Settled g new p i)
+
+-- A sweep of grounded marks: what the area old became.
+abbrev pub Sweeps : Graph → List ℕ → List ℕ → (ℕ → ℕ → Type 0) → Bool → Type 0
+Sweeps g old new V moved = Ground g old → Swept g old new V moved
+
+-- The 4,096 numbers old became new: the marks are grounded, and nothing lowers one.
+pub record AllSettled (g : Graph) (old new : List ℕ) : Type 0 where
+  pub long : length new ≡ 4096
+  pub ground : Ground g new
+  pub behind : Behind g old new
+  pub settled : (p i : ℕ) → Pair g p i → Settled g new p i

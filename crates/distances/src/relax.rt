@@ -1,6 +1,6 @@
 ghost use Rattle.std.specs.Prelude.{◌≡◌, ℕ, ◌+◌, ◌-◌, ◌<◌, ◌≤◌, true, length, if◌then◌else◌};
 ghost use Rattle.distances.specs.Graphs.{Pair, Link, accepting, mark_in, number_in};
-ghost use Rattle.distances.specs.Search.{Better, Ground, Swept};
+ghost use Rattle.distances.specs.Search.{Better, Sweeps};
 
 use crate::graph::{Graph, MOST};
 use tables::{CROSS, NEXT, WITHIN};
@@ -19,8 +19,7 @@ impl Graph {
     }
 
     // One more than the mark of (q, j), where the way there is free and that is better than `r`; else `r`.
-    fn through(&self, area: &[u16], free: bool, q: usize, j: u16, r: u16) -> u16
-        requires long { 4096 ≤ length area.now }
+    fn through(&self, area: &[u16; 4096], free: bool, q: usize, j: u16, r: u16) -> u16
         requires place { q ≤ self.now.table.places }
         requires count { 1 ≤ j }
         ensures { Better (mark_in self.now area.now) (λ a b. (a ≡ q) × (b ≡ j) × (free ≡ true) × Pair self.now q j) r result }
@@ -35,8 +34,7 @@ impl Graph {
     }
 
     // The better of `r` and what the links from (p, i) to the place q allow.
-    fn via(&self, area: &[u16], p: usize, i: u16, q: usize, r: u16) -> u16
-        requires long { 4096 ≤ length area.now }
+    fn via(&self, area: &[u16; 4096], p: usize, i: u16, q: usize, r: u16) -> u16
         requires pair { Pair self.now p i }
         requires place { (1 ≤ q) × (q ≤ self.now.table.places) }
         ensures { Better (mark_in self.now area.now) (λ a b. (a ≡ q) × Link self.now p i a b) r result }
@@ -50,8 +48,7 @@ impl Graph {
     }
 
     // One more than the least mark that a link leads to from (p, i), or 0 where there is none.
-    fn best(&self, area: &[u16], p: usize, i: u16) -> u16
-        requires long { 4096 ≤ length area.now }
+    fn best(&self, area: &[u16; 4096], p: usize, i: u16) -> u16
         requires pair { Pair self.now p i }
         ensures { Better (mark_in self.now area.now) (Link self.now p i) 0 result }
     {
@@ -72,8 +69,7 @@ impl Graph {
     }
 
     // The mark of (p, i) by the marks that its links lead to: 1 where it accepts.
-    fn due(&self, area: &[u16], p: usize, i: u16) -> u16
-        requires long { 4096 ≤ length area.now }
+    fn due(&self, area: &[u16; 4096], p: usize, i: u16) -> u16
         requires pair { Pair self.now p i }
         ensures { Better (mark_in self.now area.now) (Link self.now p i) (if accepting self.now p i then 1 else 0) result }
     {
@@ -85,12 +81,10 @@ impl Graph {
     }
 
     // Lowers the mark of (p, i) where it accepts or a link allows it, and says whether it did.
-    pub(crate) fn relax(&self, area: &mut [u16], p: usize, i: u16) -> bool
-        requires long { 4096 ≤ length area.old }
+    pub(crate) fn relax(&self, area: &mut [u16; 4096], p: usize, i: u16) -> bool
         requires place { p ≤ self.now.table.places }
         requires count { 1 ≤ i }
-        requires ground { Ground self.now area.old }
-        ensures { Swept self.now area.old area.new (λ a b. (a ≡ p) × (b ≡ i)) result }
+        ensures { Sweeps self.now area.old area.new (λ a b. (a ≡ p) × (b ≡ i)) result }
     {
         if i > self.layout.width(p) {
             return false;
