@@ -1,3 +1,4 @@
 pub mod Laws
-pub mod Words
 pub mod Members
+pub mod Words
+pub mod Shifts

@@ -5,6 +5,7 @@ use crate::set::Set64;
 
 impl Set64 {
     /// The set with no member.
+    #[tactic(auto, using(crate::proofs::Laws::bit_zero), unfolding(crate::specs::Members::member))]
     pub fn empty() -> Set64
         ensures { (k : ℕ) → member result k ≡ false }
     {
@@ -15,21 +16,18 @@ impl Set64 {
     pub fn only(n: u8) -> Set64
         ensures { (k : ℕ) → member result k ≡ (k == n && nat_lt k 64) }
     {
-        if n >= 64 {
-            return Set64::empty();
+        Set64 {
+            bits: 1u64.checked_shl(u32::from(n)).unwrap_or(0),
         }
-        Set64 { bits: 1u64 << n }
     }
 
     /// The numbers below `n`, and no number from 64 on.
     pub fn below(n: u8) -> Set64
         ensures { (k : ℕ) → member result k ≡ (nat_lt k n && nat_lt k 64) }
     {
-        if n >= 64 {
-            return Set64 { bits: u64::MAX };
-        }
-        Set64 {
-            bits: (1u64 << n) - 1,
+        match 1u64.checked_shl(u32::from(n)) {
+            Some(end) => Set64 { bits: end - 1 },
+            None => Set64 { bits: u64::MAX },
         }
     }
 
@@ -41,6 +39,7 @@ impl Set64 {
     }
 
     /// The numbers that are in one of the two sets, or in both.
+    #[tactic(auto, using(crate::proofs::Laws::bit_of_or), unfolding(crate::specs::Members::member))]
     pub fn union(self, other: Set64) -> Set64
         ensures { (k : ℕ) → member result k ≡ (member self k || member other k) }
     {
@@ -50,6 +49,7 @@ impl Set64 {
     }
 
     /// The numbers that are in both sets.
+    #[tactic(auto, using(crate::proofs::Laws::bit_of_and), unfolding(crate::specs::Members::member))]
     pub fn intersection(self, other: Set64) -> Set64
         ensures { (k : ℕ) → member result k ≡ (member self k && member other k) }
     {
@@ -99,7 +99,7 @@ impl Set64 {
     pub fn equals(self, other: Set64) -> bool
         ensures { Decides result ((k : ℕ) → member self k ≡ member other k) }
     {
-        self.bits == other.bits
+        self == other
     }
 
     /// The least member, if there is one.

@@ -5,11 +5,15 @@
 //! `Set64` is a set of numbers below 64: its meaning, `member`, tells of every number whether it is in the set,
 //! and each call says what it does to that. Two sets with the same members are equal (`same_members` in `proofs/Members.antt`).
 //!
+//! A `for` over a set goes through its members, from the least up.
+//!
 //! `Set64::span(2, 5).union(Set64::only(9)).least()` is `Some(2)`.
 
 #![tactic(auto)]
 
 mod calls;
+mod iter;
 mod set;
 
+pub use iter::Iter;
 pub use set::Set64;

@@ -14,10 +14,11 @@ use Rattle.bits.proofs.Laws.{bit_zero}
 use Rattle.widths.specs.Width.{width_of, Sound}
 use Rattle.tables.proofs.PastPlaces.{read_replicate}
 use Rattle.glushkov.specs.declared.data.Counts.{Counts}
+use Rattle.tables.specs.declared.links.Links.{Links}
 use Rattle.tables.specs.declared.table.LinkRow.{LinkRow}
 use Rattle.glushkov.specs.declared.data.Part.{Part}
 use Rattle.tables.specs.declared.table.Table.{Table}
-use Rattle.tables.specs.Masks.{no_row, no_set, mask_at, has_place, joined}
+use Rattle.tables.specs.Masks.{no_links, no_row, no_set, mask_in, mask_at, has_place, joined}
 use Rattle.glushkov.specs.Passes.{PartOf, LinksOf, CountsOf, Outside, FreshCounts, FreshRows}
 use Rattle.tables.specs.Tables.{TableOf, Roomy, width_or_zero, low_or_zero}
 use Rattle.glushkov.proofs.CountLaws.{holds_outside, side}
@@ -28,9 +29,9 @@ pub only_start : (p : ℕ) → get_or (set (replicate {A = ℕ} 65 0) 0 1) p 0 �
 only_start zero = refl
 only_start (suc p) = let z : get_or (replicate {A = ℕ} 64 0) p 0 ≡ 0 = read_replicate (λ (v : ℕ). v ≡ 0) 64 0 0 refl refl p in grind (arith, nat_tests)
 
-pub fresh_masks : (row : LinkRow) → ((q : ℕ) → get_or row.masks q 0 ≡ 0) → (p q : ℕ) → mask_at (replicate 65 row) p q ≡ 0
+pub fresh_masks : (row : LinkRow) → ((q : ℕ) → mask_in row q ≡ 0) → (p q : ℕ) → mask_at (replicate 65 row) p q ≡ 0
 fresh_masks row none p q =
-    read_replicate (λ (r : LinkRow). get_or r.masks q 0 ≡ 0) 65 row no_row (none q) (read_replicate (λ (v : ℕ). v ≡ 0) 65 0 0 refl refl q) p
+    read_replicate (λ (r : LinkRow). mask_in r q ≡ 0) 65 row no_row (none q) (read_replicate (λ (v : Links). v.mask ≡ 0) 65 no_links no_links refl refl q) p
 
 -- A place of the pattern, or not.
 placed : (n p : ℕ) → ((0 < p) × (p ≤ 0 + n)) ⊎ Outside 0 n p
@@ -83,17 +84,17 @@ same_test x y e d = (λ h. d.0 (sym e ∙ h), λ h. e ∙ d.1 h)
 -- A cross link from the start to each place of a set.
 pub start_linked :
     (mid : List LinkRow) (d row : LinkRow) (fs : Set64) → 0 < length mid
-    → ((q : ℕ) → get_or row.masks q 0 ≡ joined (has_place fs q) (get_or (get_or mid 0 d).masks q 0) 4)
+    → ((q : ℕ) → mask_in row q ≡ joined (has_place fs q) (mask_in (get_or mid 0 d) q) 4)
     → (p q : ℕ) → mask_at (set mid 0 row) p q ≡ joined (eqb p 0 && has_place fs q) (mask_at mid p q) 4
 start_linked mid d row fs h new p q =
     elim (eqb_tells p 0) [
       | inl t ↦
-          let here : mask_at (set mid 0 row) p q ≡ get_or row.masks q 0 = ap (λ (r : LinkRow). get_or r.masks q 0) (ap (λ j. get_or (set mid 0 row) j no_row) t.1 ∙ get_or-set_same mid 0 row no_row h) in
-          let same : get_or (get_or mid 0 d).masks q 0 ≡ mask_at mid p q = ap (λ (r : LinkRow). get_or r.masks q 0) (get_or_default mid 0 d no_row h ∙ ap (λ j. get_or mid j no_row) (sym t.1)) in
+          let here : mask_at (set mid 0 row) p q ≡ mask_in row q = ap (λ (r : LinkRow). mask_in r q) (ap (λ j. get_or (set mid 0 row) j no_row) t.1 ∙ get_or-set_same mid 0 row no_row h) in
+          let same : mask_in (get_or mid 0 d) q ≡ mask_at mid p q = ap (λ (r : LinkRow). mask_in r q) (get_or_default mid 0 d no_row h ∙ ap (λ j. get_or mid j no_row) (sym t.1)) in
           let added = new q in
           grind (arith, nat_tests)
       | inr t ↦
-          let same : mask_at (set mid 0 row) p q ≡ mask_at mid p q = ap (λ (r : LinkRow). get_or r.masks q 0) (get_or-set_other mid 0 p row no_row t.1) in
+          let same : mask_at (set mid 0 row) p q ≡ mask_at mid p q = ap (λ (r : LinkRow). mask_in r q) (get_or-set_other mid 0 p row no_row t.1) in
           grind (arith, nat_tests)
     ]
 

@@ -6,6 +6,8 @@ use Rattle.grammar.specs.declared.tree.Node.{Node}
 use Rattle.grammar.specs.declared.tree.Times.{Times}
 use Rattle.grammar.specs.declared.tree.Times.TheVariants.{Star, Plus, Opt, Counted}
 use Rattle.syntax.specs.TextLanguage.{tree_of}
+use Rattle.tables.specs.declared.links.Link.{Link}
+use Rattle.tables.specs.declared.links.Link.TheVariants.{Within, Next, Cross}
 
 -- The tree of a node, without byte places.
 abbrev pub tree_in : Node → Tree
@@ -19,15 +21,15 @@ body_inside Opt inside = inside
 body_inside (Counted at bounds) inside = true
 
 -- The link of a meeting: within inside a counted repeat's body, else cross.
-abbrev pub meeting : Bool → ℕ
-meeting inside = cond inside 1 4
+abbrev pub meeting : Bool → Link
+meeting inside = cond inside Within Cross
 
 -- The link from each last of a repeat's body to each first: none for `?`, and next for a counted repeat.
-abbrev pub again : Times → Bool → ℕ
-again Star inside = meeting inside
-again Plus inside = meeting inside
-again Opt inside = 0
-again (Counted at bounds) inside = 2
+abbrev pub again : Times → Bool → Option Link
+again Star inside = Some (meeting inside)
+again Plus inside = Some (meeting inside)
+again Opt inside = None
+again (Counted at bounds) inside = Some Next
 
 -- A repeat is nullable, by whether its body is.
 abbrev pub nullable_in : Times → Bool → Bool

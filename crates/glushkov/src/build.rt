@@ -1,8 +1,9 @@
-ghost use Rattle.std.specs.Prelude.{◌≡◌, ℕ, ◌≤◌, MatchOption, slice_index};
+ghost use Rattle.std.specs.Prelude.{◌≡◌, ℕ, ◌≤◌, MatchOption};
 ghost use Rattle.automata.specs.Places.{size};
 ghost use Rattle.glushkov.specs.Nodes.{tree_in};
 ghost use Rattle.glushkov.specs.Passes.{FreshCounts, FreshRows};
 ghost use Rattle.tables.specs.Tables.{Roomy, TableOf};
+ghost use Rattle.tables.specs.Masks.{mask_in};
 
 use crate::counts::{count, fill};
 use crate::data::Counts;
@@ -10,27 +11,33 @@ use crate::joins::join_row;
 use crate::links::link;
 use bits::Set64;
 use grammar::Node;
-use tables::{CROSS, LinkRow, Table};
+use tables::{Link, LinkRow, Links, Place, Table};
 use widths::Widths;
 
 // No place but the start, which has width 1 and low 1.
 fn fresh_counts() -> Counts
     ensures { FreshCounts result }
 {
-    let mut ones = [0; 65];
-    ones[0] = 1;
+    let mut each = [Place {
+        codes: Set64::empty(),
+        low: 0,
+    }; 65];
+    each[0].low = 1;
+    let mut widths = [0; 65];
+    widths[0] = 1;
     Counts {
-        sets: [Set64::empty(); 65],
-        widths: ones,
-        lows: ones,
+        each,
+        widths,
     }
 }
 
 // A row without links.
 fn no_links() -> LinkRow
-    ensures { (q : ℕ) → slice_index result.masks q ≡ 0 }
+    ensures { (q : ℕ) → mask_in result q ≡ 0 }
 {
-    LinkRow { masks: [0; 65] }
+    LinkRow {
+        to: [Links::none(); 65],
+    }
 }
 
 // No links.
@@ -51,14 +58,13 @@ fn fill_table(node: &Node, places: usize) -> Option<Table>
     let mut links = fresh_rows();
     let part = link(node, 0, false, &mut links);
     // The start has a cross link to every first.
-    join_row(&mut links[0], part.firsts, CROSS);
+    join_row(&mut links[0], part.firsts, Link::Cross);
     Some(Table {
         places,
         nullable: part.nullable,
         lasts: part.lasts,
-        sets: counts.sets,
+        each: counts.each,
         widths,
-        lows: counts.lows,
         links,
     })
 }

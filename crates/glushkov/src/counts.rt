@@ -7,6 +7,7 @@ use crate::data::Counts;
 use crate::parts::can_be_empty;
 use bits::Set64;
 use grammar::{Node, Times};
+use tables::Place;
 
 // How many places there are behind `seen` others, or `None` where they come to more than 64.
 pub(crate) fn count(node: &Node, seen: usize) -> Option<usize>
@@ -15,10 +16,8 @@ pub(crate) fn count(node: &Node, seen: usize) -> Option<usize>
 {
     match node {
         Node::Empty => Some(seen),
-        Node::Leaf(_, _) => { if seen < 64 { Some(seen + 1) } else { None } }
-        Node::Class(_, _, _) => { if seen < 64 { Some(seen + 1) } else { None } }
-        Node::Cat(a, b) => count(b, count(a, seen)?),
-        Node::Alt(a, b) => count(b, count(a, seen)?),
+        Node::Leaf(_, _) | Node::Class(_, _, _) => { if seen < 64 { Some(seen + 1) } else { None } }
+        Node::Cat(a, b) | Node::Alt(a, b) => count(b, count(a, seen)?),
         Node::Repeat(body, _) => count(body, seen),
     }
 }
@@ -29,8 +28,7 @@ pub(crate) fn is_nullable(node: &Node) -> bool
 {
     match node {
         Node::Empty => true,
-        Node::Leaf(_, _) => false,
-        Node::Class(_, _, _) => false,
+        Node::Leaf(_, _) | Node::Class(_, _, _) => false,
         Node::Cat(a, b) => is_nullable(a) && is_nullable(b),
         Node::Alt(a, b) => is_nullable(a) || is_nullable(b),
         Node::Repeat(body, times) => can_be_empty(*times, is_nullable(body)),
@@ -42,13 +40,9 @@ fn put(out: &mut Counts, p: usize, codes: Set64, bounds: Option<(u16, u16)>)
     requires { p < 65 }
     ensures { Written p codes (bounds_or bounds) out.old out.new }
 {
-    let (low, width) = match bounds {
-        None => (1, 1),
-        Some(b) => b,
-    };
-    out.sets[p] = codes;
+    let (low, width) = bounds.unwrap_or((1, 1));
+    out.each[p] = Place { codes, low };
     out.widths[p] = width;
-    out.lows[p] = low;
 }
 
 // The low and the width that a repeat gives the places of its body.
@@ -74,19 +68,11 @@ pub(crate) fn fill(
 {
     match node {
         Node::Empty => offset,
-        Node::Leaf(_, codes) => {
+        Node::Leaf(_, codes) | Node::Class(_, codes, _) => {
             put(out, offset + 1, *codes, bounds);
             offset + 1
         }
-        Node::Class(_, codes, _) => {
-            put(out, offset + 1, *codes, bounds);
-            offset + 1
-        }
-        Node::Cat(a, b) => {
-            let middle = fill(a, offset, bounds, out);
-            fill(b, middle, bounds, out)
-        }
-        Node::Alt(a, b) => {
+        Node::Cat(a, b) | Node::Alt(a, b) => {
             let middle = fill(a, offset, bounds, out);
             fill(b, middle, bounds, out)
         }

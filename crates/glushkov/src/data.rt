@@ -1,14 +1,13 @@
 ghost use Rattle.std.specs.Prelude.{◌≡◌, length};
 
-use bits::Set64;
+use tables::{Place, PlaceSet};
 
-// What a pass over the tree writes for each place: its codes, its width and its low.
+// What a pass over the tree writes: each place, and its width.
 #[derive(Clone, Copy)]
 pub(crate) struct Counts {
-    pub(crate) sets: [Set64; 65],
+    pub(crate) each: [Place; 65],
     pub(crate) widths: [u16; 65],
-    pub(crate) lows: [u16; 65],
-    ghost full: { length sets ≡ 65 },
+    ghost full: { length each ≡ 65 },
     ghost long: { length widths ≡ 65 },
 }
 
@@ -17,6 +16,6 @@ pub(crate) struct Counts {
 pub(crate) struct Part {
     pub(crate) upto: usize,
     pub(crate) nullable: bool,
-    pub(crate) firsts: Set64,
-    pub(crate) lasts: Set64,
+    pub(crate) firsts: PlaceSet,
+    pub(crate) lasts: PlaceSet,
 }

@@ -19,8 +19,7 @@ pub(crate) fn link(node: &Node, offset: usize, inside: bool, rows: &mut [LinkRow
 {
     match node {
         Node::Empty => no_place(offset),
-        Node::Leaf(_, _) => one_place(offset),
-        Node::Class(_, _, _) => one_place(offset),
+        Node::Leaf(_, _) | Node::Class(_, _, _) => one_place(offset),
         Node::Cat(a, b) => {
             let left = link(a, offset, inside, rows);
             let right = link(b, left.upto, inside, rows);
@@ -34,7 +33,9 @@ pub(crate) fn link(node: &Node, offset: usize, inside: bool, rows: &mut [LinkRow
         }
         Node::Repeat(body, times) => {
             let part = link(body, offset, inside_body(*times, inside), rows);
-            join(rows, part.lasts, part.firsts, link_again(*times, inside));
+            if let Some(again) = link_again(*times, inside) {
+                join(rows, part.lasts, part.firsts, again);
+            }
             Part {
                 nullable: can_be_empty(*times, part.nullable),
                 ..part

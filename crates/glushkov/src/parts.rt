@@ -4,10 +4,8 @@ ghost use Rattle.glushkov.specs.Nodes.{body_inside, meeting, again, nullable_in}
 ghost use Rattle.glushkov.specs.Passes.{PartOf};
 
 use crate::data::Part;
-use crate::joins::{either, one};
-use bits::Set64;
 use grammar::Times;
-use tables::{CROSS, NEXT, WITHIN};
+use tables::{Link, PlaceSet};
 
 // An empty branch.
 pub(crate) fn no_place(offset: usize) -> Part
@@ -16,8 +14,8 @@ pub(crate) fn no_place(offset: usize) -> Part
     Part {
         upto: offset,
         nullable: true,
-        firsts: Set64::empty(),
-        lasts: Set64::empty(),
+        firsts: PlaceSet::empty(),
+        lasts: PlaceSet::empty(),
     }
 }
 
@@ -29,8 +27,8 @@ pub(crate) fn one_place(offset: usize) -> Part
     Part {
         upto: offset + 1,
         nullable: false,
-        firsts: one(offset + 1),
-        lasts: one(offset + 1),
+        firsts: PlaceSet::only(offset + 1),
+        lasts: PlaceSet::only(offset + 1),
     }
 }
 
@@ -42,12 +40,12 @@ pub(crate) fn in_order(a: &Part, b: &Part) -> Part
         upto: b.upto,
         nullable: a.nullable && b.nullable,
         firsts: if a.nullable {
-            either(a.firsts, b.firsts)
+            a.firsts.union(b.firsts)
         } else {
             a.firsts
         },
         lasts: if b.nullable {
-            either(b.lasts, a.lasts)
+            b.lasts.union(a.lasts)
         } else {
             b.lasts
         },
@@ -61,16 +59,16 @@ pub(crate) fn in_choice(a: &Part, b: &Part) -> Part
     Part {
         upto: b.upto,
         nullable: a.nullable || b.nullable,
-        firsts: either(a.firsts, b.firsts),
-        lasts: either(a.lasts, b.lasts),
+        firsts: a.firsts.union(b.firsts),
+        lasts: a.lasts.union(b.lasts),
     }
 }
 
 // The link of a meeting: within inside a counted repeat's body, else cross.
-pub(crate) fn meeting_link(inside: bool) -> u8
+pub(crate) fn meeting_link(inside: bool) -> Link
     ensures { result ≡ meeting inside }
 {
-    if inside { WITHIN } else { CROSS }
+    if inside { Link::Within } else { Link::Cross }
 }
 
 // Whether a repeat's body lies inside a counted repeat.
@@ -83,14 +81,14 @@ pub(crate) fn inside_body(times: Times, inside: bool) -> bool
     }
 }
 
-// The link from each last of a repeat's body to each first.
-pub(crate) fn link_again(times: Times, inside: bool) -> u8
+// The link from each last of a repeat's body to each first, if there is one.
+pub(crate) fn link_again(times: Times, inside: bool) -> Option<Link>
     ensures { result ≡ again times inside }
 {
     match times {
-        Times::Star | Times::Plus => meeting_link(inside),
-        Times::Opt => 0,
-        Times::Counted(_, _) => NEXT,
+        Times::Star | Times::Plus => Some(meeting_link(inside)),
+        Times::Opt => None,
+        Times::Counted(_, _) => Some(Link::Next),
     }
 }
 

@@ -1,1 +1,2 @@
+pub mod LinkBits
 pub mod PastPlaces

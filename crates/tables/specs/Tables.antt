@@ -1,5 +1,5 @@
 -- The table of a pattern: every field as the pattern's tree gives it.
-use Rattle.std.specs.Prelude.{◌≡◌, ℕ, ◌≤◌, Bool, cond, ◌⊎◌, Decides, nat_le, slice_index, slice_index_or}
+use Rattle.std.specs.Prelude.{◌≡◌, ℕ, ◌≤◌, Bool, cond, ◌⊎◌, Decides, nat_le, slice_index_or}
 use Rattle.automata.specs.Language.{Tree}
 use Rattle.automata.specs.Places.{size, nullable, First, Last, Holds, low, width}
 use Rattle.automata.specs.Links.{Within, Next, Cross}
@@ -7,7 +7,7 @@ use Rattle.bits.specs.Members.{member}
 use Rattle.widths.specs.Width.{width_of}
 use Rattle.checks.specs.Widths.{widths_of}
 use Rattle.tables.specs.declared.table.Table.{Table}
-use Rattle.tables.specs.Masks.{mask_at, within, next, cross, has_place, no_set}
+use Rattle.tables.specs.Masks.{mask_at, within, next, cross, has_place, no_place}
 
 -- The width of a number: that of the place, and 0 where there is no such place.
 abbrev pub width_or_zero : Tree → ℕ → ℕ
@@ -19,11 +19,11 @@ low_or_zero e p = cond (nat_le p (size e)) (low e 0 p) 0
 
 -- The low that a table has for a number.
 abbrev pub low_of : Table → ℕ → ℕ
-low_of t p = slice_index t.lows p
+low_of t p = (slice_index_or t.each p no_place).low
 
 -- The set of codes at a place holds a code.
 abbrev pub takes : Table → ℕ → ℕ → Bool
-takes t p c = member (slice_index_or t.sets p no_set) c
+takes t p c = member (slice_index_or t.each p no_place).codes c
 
 -- The mask of the links from p to q.
 abbrev pub links_of : Table → ℕ → ℕ → ℕ

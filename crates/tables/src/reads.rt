@@ -4,18 +4,9 @@ ghost use Rattle.widths.specs.Width.{width_of};
 ghost use Rattle.tables.specs.Masks.{has_place};
 ghost use Rattle.tables.specs.Tables.{takes, links_of, low_of};
 
+use crate::links::Links;
 use crate::table::Table;
 use bits::Set64;
-
-/// Whether p is in a set of places; no number that is no place is.
-pub fn is_in(s: Set64, p: usize) -> bool
-    ensures { result ≡ has_place s p }
-{
-    if p >= 65 {
-        return false;
-    }
-    p > 0 && s.has((p - 1) as u8)
-}
 
 impl Table {
     /// How many places the pattern has, the start not counted.
@@ -36,14 +27,18 @@ impl Table {
     pub fn is_last(&self, p: usize) -> bool
         ensures { result ≡ has_place self.now.lasts p }
     {
-        is_in(self.lasts, p)
+        self.lasts.has(p)
     }
 
     /// The codes that the place p takes; none where there is no such place.
+    #[tactic(auto, using(crate::proofs::PastPlaces::codes_past))]
     pub fn codes_at(&self, p: usize) -> Set64
         ensures { (c : ℕ) → member result c ≡ takes self.now p c }
     {
-        if p < 65 { self.sets[p] } else { Set64::empty() }
+        match self.each.get(p) {
+            Some(place) => place.codes,
+            None => Set64::empty(),
+        }
     }
 
     /// The width of the place p, and 0 where there is no such place.
@@ -57,16 +52,17 @@ impl Table {
     pub fn low_at(&self, p: usize) -> u16
         ensures { result ≡ low_of self.now p }
     {
-        if p < 65 { self.lows[p] } else { 0 }
+        self.each.get(p).map_or(0, |place| place.low)
     }
 
-    /// The mask of the links from p to q, made of `WITHIN`, `NEXT` and `CROSS`; 0 where one of them is no place.
-    pub fn links(&self, p: usize, q: usize) -> u8
-        ensures { result ≡ links_of self.now p q }
+    /// The links from p to q; none where one of them is no place.
+    #[tactic(auto, using(crate::proofs::PastPlaces::mask_past))]
+    pub fn links(&self, p: usize, q: usize) -> Links
+        ensures { result.mask ≡ links_of self.now p q }
     {
-        if p >= 65 || q >= 65 {
-            return 0;
+        match self.links.get(p) {
+            Some(row) => row.to.get(q).copied().unwrap_or(Links::none()),
+            None => Links::none(),
         }
-        self.links[p].masks[q]
     }
 }

@@ -1,22 +1,22 @@
 ghost use Rattle.std.specs.Prelude.{◌≡◌, ◌≤◌, length};
 
+use crate::links::Links;
+use crate::places::PlaceSet;
 use bits::Set64;
 use widths::Widths;
 
-/// A within link: count i goes to i.
-pub const WITHIN: u8 = 1;
-
-/// A next link: count i goes to i + 1, below the width.
-pub const NEXT: u8 = 2;
-
-/// A cross link: count i goes to 1, from the low on.
-pub const CROSS: u8 = 4;
-
-/// The links from one place: for every place, by its number, the mask of the links that lead there.
+/// The links from one place: for every place, by its number, those that lead there.
 #[derive(Clone, Copy)]
 pub struct LinkRow {
-    pub masks: [u8; 65],
-    ghost long: { length masks ≡ 65 },
+    pub to: [Links; 65],
+    ghost long: { length to ≡ 65 },
+}
+
+/// What a place takes, and the low of its counted repeat.
+#[derive(Clone, Copy)]
+pub struct Place {
+    pub codes: Set64,
+    pub low: u16,
 }
 
 /// The places of a pattern, what each one takes, and the links between them. Place 0 is the start.
@@ -24,13 +24,12 @@ pub struct LinkRow {
 pub struct Table {
     pub places: usize,
     pub nullable: bool,
-    pub lasts: Set64,
-    pub sets: [Set64; 65],
+    pub lasts: PlaceSet,
+    pub each: [Place; 65],
     pub widths: Widths,
-    pub lows: [u16; 65],
     pub links: [LinkRow; 65],
     ghost few: { places ≤ 64 },
-    ghost full: { length sets ≡ 65 },
+    ghost full: { length each ≡ 65 },
     ghost square: { length links ≡ 65 },
 }
 

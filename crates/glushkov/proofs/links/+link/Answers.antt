@@ -1,24 +1,9 @@
 use Rattle.std.proofs.Common.{sym, ap, subst}
 use Rattle.glushkov.specs.Nodes.{tree_in}
 use Rattle.glushkov.specs.Passes.{PartOf, LinksOf}
-use Rattle.glushkov.proofs.LinkLaws.{cat_links, alt_links, repeat_links, repeat_part, unit_links}
+use Rattle.glushkov.proofs.LinkLaws.{cat_links, alt_links, repeat_links, JoinedAgain, one_of}
 use Rattle.glushkov.proofs.links.+link.Goals as goal
-
-pub returns-in-Leaf : goal.returns-in-Leaf
-returns-in-Leaf t c =
-    let e = ap tree_in c.in-Leaf.is in
-    record {
-      part = subst (λ v. PartOf v c.args.offset c.one_place.result) (sym e) (c.one_place.ensures _);
-      links = subst (λ v. LinksOf v c.args.offset c.args.inside c.args.rows.now c.args.rows.now) (sym e) (unit_links _ _ _ _);
-    }
-
-pub returns-in-Class : goal.returns-in-Class
-returns-in-Class t c =
-    let e = ap tree_in c.in-Class.is in
-    record {
-      part = subst (λ v. PartOf v c.args.offset c.one_place-in-Class.result) (sym e) (c.one_place-in-Class.ensures _);
-      links = subst (λ v. LinksOf v c.args.offset c.args.inside c.args.rows.now c.args.rows.now) (sym e) (unit_links _ _ _ _);
-    }
+use Rattle.glushkov.proofs.links.+link.Goals.{in-Some, in_default}
 
 pub returns-in-Cat : goal.returns-in-Cat
 returns-in-Cat t c =
@@ -48,16 +33,20 @@ returns-in-Alt t c =
           (alt_links _ _ _ _ _ _ _ c.link-left-in-Alt.result pa la lb);
     }
 
-pub returns-in-Repeat : goal.returns-in-Repeat
-returns-in-Repeat t c =
+pub returns-in-Leaf-clause-part : goal.returns-in-Leaf-clause-part
+returns-in-Leaf-clause-part t c =
+    let (codes, e) = one_of c.in-Leaf.is in
+    subst (λ v. PartOf v c.args.offset c.one_place.result) (sym e) (c.one_place.ensures codes)
+
+pub returns-after-link_again-clause-links : goal.returns-after-link_again-clause-links
+returns-after-link_again-clause-links t c =
     let e = ap tree_in c.in-Repeat.is in
     let pa = rw c.deref-in-Repeat.ensures at c.link-part.ensures.part in
     let la = rw c.deref-in-Repeat.ensures at c.link-part.ensures.links in
-    record {
-      part =
-          subst (λ v. PartOf v c.args.offset record { upto = c.link-part.result.upto; nullable = c.can_be_empty.result; firsts = c.link-part.result.firsts; lasts = c.link-part.result.lasts }) (sym e)
-          (repeat_part c.in-Repeat.times _ _ c.link-part.result c.can_be_empty.result pa c.can_be_empty.ensures);
-      links =
-          subst (λ v. LinksOf v c.args.offset c.args.inside c.args.rows.now c.join-in-Repeat.new.rows) (sym e)
-          (repeat_links c.in-Repeat.times _ _ c.args.inside c.inside_body.result _ c.link-part.new.rows _ c.link-part.result c.link_again.result c.inside_body.ensures c.link_again.ensures pa la c.join-in-Repeat.ensures);
-    }
+    let again : JoinedAgain c.link-part.result.lasts c.link-part.result.firsts c.link_again.result c.link-part.new.rows c.match-link_again.rows =
+    elim c.match-link_again.branch [
+      | in-Some w ↦ rw (w.in-Some.is, w.rows-is) w.join-in-Some.ensures
+      | in_default w ↦ rw w.in_default.is w.rows-is
+    ] in
+    subst (λ v. LinksOf v c.args.offset c.args.inside c.args.rows.now c.match-link_again.rows) (sym e)
+    (repeat_links c.in-Repeat.times _ _ c.args.inside c.inside_body.result _ c.link-part.new.rows _ c.link-part.result c.link_again.result c.inside_body.ensures c.link_again.ensures pa la again)

@@ -1,4 +1,4 @@
-use Rattle.std.proofs.Common.{ℕ, ap}
+use Rattle.std.proofs.Common.{ℕ, ap, ◌∙◌}
 use Rattle.std.proofs.lemmas.Bool.{eqb-true, eq-eqb}
 use Rattle.bits.specs.Bit.{bit}
 use Rattle.bits.specs.Members.{member}
@@ -10,4 +10,4 @@ unfolding member
 returns c =
     let a = c.args.self in
     let b = c.args.other in
-    ((λ t k. ap (λ (x : ℕ). bit x k) (eqb-true a.bits b.bits t)), (λ h. eq-eqb a.bits b.bits (ap (λ s. s.bits) (same_members a b h))))
+    ((λ t k. ap (λ (x : ℕ). bit x k) (eqb-true a.bits b.bits (rw c.eq.ensures at t))), (λ h. c.eq.ensures ∙ eq-eqb a.bits b.bits (ap (λ s. s.bits) (same_members a b h))))

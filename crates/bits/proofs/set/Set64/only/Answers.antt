@@ -1,9 +1,9 @@
-use Rattle.std.proofs.Common.{◌<◌, arith}
-use Rattle.std.proofs.lemmas.Bool.Decides.{nat_tests}
+use Rattle.std.proofs.Common.{ap, ◌∙◌}
+use Rattle.bits.specs.Bit.{bit}
 use Rattle.bits.specs.Members.{member}
-use Rattle.bits.proofs.Laws.{bit-laws}
+use Rattle.bits.proofs.Shifts.{bit_shifted}
 use Rattle.bits.proofs.set.Set64.only.Goals as goal
 
 pub returns : goal.returns
 unfolding member
-returns c = λ k. let low : c.args.n < 64 = omega arith in simp bit-laws (grind (arith, nat_tests))
+returns c = λ k. ap (λ v. bit v k) c.unwrap_or.ensures ∙ bit_shifted c.checked_shl.result c.args.n k (rw c.from.ensures at c.checked_shl.ensures)
