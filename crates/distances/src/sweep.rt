@@ -3,7 +3,7 @@ ghost use Rattle.distances.specs.Graphs.{Pair, width_in};
 ghost use Rattle.distances.specs.Search.{AllSettled, Ground, Sweeps};
 
 use crate::graph::Graph;
-use tables::NEXT;
+use tables::Link;
 
 impl Graph {
     // The first place of the block that ends with the place `last`: the first that a next link leads to from there, else `last`.
@@ -11,7 +11,7 @@ impl Graph {
         ensures { result ≤ last }
     {
         (0..last)
-            .find(|q| self.table.links(last, *q) & NEXT != 0)
+            .find(|q| self.table.links(last, *q).has(Link::Next))
             .unwrap_or(last)
     }
 
