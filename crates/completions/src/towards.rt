@@ -7,22 +7,19 @@ ghost use Rattle.completions.specs.Towards.{leading, Towards};
 
 use crate::nearest::Found;
 use distances::Marks;
-use steps::has_link;
-use tables::{CROSS, NEXT, Table, WITHIN};
+use tables::{Link, Table};
 
 // Whether a link leads from a pair to one at q that is one nearer.
 fn leads(table: &Table, marks: &Marks, from: Found, q: usize) -> bool
     ensures { result ≡ leading table.now (mark_of marks.now) from.place from.count q from.distance }
 {
-    let Found {
-        place: p,
-        count: i,
-        distance: mark,
-    } = from;
-    let mask = table.links(p, q);
-    has_link(mask, WITHIN) && marks.at(q, i) == mark
-        || has_link(mask, NEXT) && i < table.width_at(p) && marks.at(q, i + 1) == mark
-        || has_link(mask, CROSS) && table.low_at(p) <= i && marks.at(q, 1) == mark
+    let links = table.links(from.place, q);
+    let is_nearer = |j| marks.at(q, j) == from.distance;
+    links.has(Link::Within) && is_nearer(from.count)
+        || links.has(Link::Next)
+            && from.count < table.width_at(from.place)
+            && is_nearer(from.count + 1)
+        || links.has(Link::Cross) && table.low_at(from.place) <= from.count && is_nearer(1)
 }
 
 // The least code of a place that a link leads to from a pair, with one less as its distance; `None` where there is none.
