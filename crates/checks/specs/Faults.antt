@@ -1,5 +1,7 @@
 -- What a pattern may not have, each fault with the byte that it is told by, and which of them stands leftmost.
 use Rattle.std.specs.Prelude.{◌≡◌, ℕ, ◌+◌, ◌-◌, ◌<◌, ◌≤◌, false, cond, ◌⊎◌, List, [], ◌∷◌, ◌++◌, length, Some, None, Ok, Err, Option, Result, nat_le, slice_index}
+use Rattle.refusals.specs.declared.Refusal.{Refusal}
+use Rattle.refusals.specs.declared.Refusal.TheVariants.{Places}
 use Rattle.grammar.specs.Ast.{Ast, empty, leaf, class, cat, alt, repeat, star, plus, opt, counted}
 
 -- a range whose first letter stands at p runs backwards, and it is the first such range of its class
@@ -85,6 +87,6 @@ least (Some p) None = Some p
 least (Some p) (Some q) = cond (nat_le p q) (Some p) (Some q)
 
 -- with so many places before, these make so many in all and at most 64, or this is where the 65th stands
-abbrev pub UpTo64 : ℕ → List ℕ → Result ℕ ℕ → Type 0
+abbrev pub UpTo64 : ℕ → List ℕ → Result ℕ Refusal → Type 0
 UpTo64 seen ls (Ok k) = (k ≡ seen + length ls) × (k ≤ 64)
-UpTo64 seen ls (Err p) = (64 < seen + length ls) × (p ≡ slice_index ls (64 - seen))
+UpTo64 seen ls (Err refusal) = (64 < seen + length ls) × (refusal ≡ Places (slice_index ls (64 - seen)))

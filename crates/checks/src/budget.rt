@@ -5,16 +5,17 @@ ghost use Rattle.checks.specs.Faults.{UpTo64, places_of};
 ghost use Rattle.checks.specs.Widths.{widths_at, widths_in};
 
 use grammar::{Node, Times};
+use refusals::Refusal;
 
-/// Counts the places, of which `seen` stand before: at most 64, or where the 65th stands.
-pub(crate) fn count_places(n: &Node, seen: usize) -> Result<usize, usize>
+/// Counts the places, of which `seen` stand before: at most 64, or the refusal that tells where the 65th stands.
+pub fn count_places(n: &Node, seen: usize) -> Result<usize, Refusal>
     requires { seen ≤ 64 }
     ensures { UpTo64 seen (places_of (ast_of n.now)) result }
 {
     match n {
         Node::Empty => Ok(seen),
         Node::Leaf(at, _) | Node::Class(at, _, _) => {
-            if seen < 64 { Ok(seen + 1) } else { Err(*at) }
+            if seen < 64 { Ok(seen + 1) } else { Err(Refusal::Places(*at)) }
         }
         Node::Cat(a, b) | Node::Alt(a, b) => count_places(b, count_places(a, seen)?),
         Node::Repeat(a, _) => count_places(a, seen),
@@ -27,13 +28,7 @@ fn spend_each(n: &Node, width: u16, left: u16) -> Option<u16>
 {
     match n {
         Node::Empty => Some(left),
-        Node::Leaf(_, _) | Node::Class(_, _, _) => {
-            if left < width {
-                None
-            } else {
-                Some(left - width)
-            }
-        }
+        Node::Leaf(_, _) | Node::Class(_, _, _) => left.checked_sub(width),
         Node::Cat(a, b) | Node::Alt(a, b) => spend_each(b, width, spend_each(a, width, left)?),
         Node::Repeat(a, _) => spend_each(a, width, left),
     }
@@ -45,7 +40,7 @@ pub(crate) fn spend(n: &Node, left: u16) -> Option<u16>
 {
     match n {
         Node::Empty => Some(left),
-        Node::Leaf(_, _) | Node::Class(_, _, _) => { if left < 1 { None } else { Some(left - 1) } }
+        Node::Leaf(_, _) | Node::Class(_, _, _) => left.checked_sub(1),
         Node::Cat(a, b) | Node::Alt(a, b) => spend(b, spend(a, left)?),
         Node::Repeat(a, Times::Counted(_, (_, high))) => spend_each(a, *high, left),
         Node::Repeat(a, Times::Star | Times::Plus | Times::Opt) => spend(a, left),

@@ -23,11 +23,7 @@ pub fn check(n: &Node) -> Result<(), Refusal>
     if let Some(p) = nested(n) {
         return Err(Refusal::Nested(p));
     }
-    if let Err(p) = count_places(n, 0) {
-        return Err(Refusal::Places(p));
-    }
-    if let None = spend(n, 4095) {
-        return Err(Refusal::Counts);
-    }
+    count_places(n, 0)?;
+    spend(n, 4095).ok_or(Refusal::Counts)?;
     Ok(())
 }

@@ -10,9 +10,8 @@ fn earlier(a: Option<usize>, b: Option<usize>) -> Option<usize>
     ensures { result ≡ least a b }
 {
     match (a, b) {
-        (None, _) => b,
-        (_, None) => a,
-        (Some(p), Some(q)) => { if p <= q { a } else { b } }
+        (Some(p), Some(q)) => Some(p.min(q)),
+        _ => a.or(b),
     }
 }
 

@@ -12,4 +12,5 @@ mod budget;
 mod checks;
 mod leftmost;
 
+pub use budget::count_places;
 pub use checks::check;

@@ -1,5 +1,5 @@
 -- What is written for the places of one part and then for those of another.
-use Rattle.std.proofs.Common.{◌≡◌, ℕ, ◌+◌, ◌<◌, ◌≤◌, Bool, true, false, ◌⊎◌, get_or, Some, None, Option, sym, refl, ap, ◌∙◌, subst, inl, inr, arith}
+use Rattle.std.proofs.Common.{◌≡◌, ℕ, ◌+◌, ◌<◌, ◌≤◌, Bool, true, false, ◌⊎◌, get_or, Some, None, Option, Box, sym, refl, ap, ◌∙◌, subst, inl, inr, arith}
 use Rattle.std.proofs.lemmas.Bool.{cases_lt}
 use Rattle.std.proofs.lemmas.Bool.Decides.{nat_tests}
 use Rattle.automata.specs.Language.{Tree, cat, alt}
@@ -7,10 +7,13 @@ use Rattle.automata.specs.Places.{size}
 use Rattle.automata.specs.Decide.{holdsb}
 use Rattle.automata.proofs.Decide.{decides_holds}
 use Rattle.automata.proofs.Ranges.{holds_range}
-use Rattle.bits.specs.declared.set.Set64.{Set64}
+use Rattle.tables.specs.declared.table.Place.{Place}
 use Rattle.bits.specs.Members.{member}
+use Rattle.std.specs.declared.alloc.Global.{Global}
+use Rattle.grammar.specs.declared.tree.Node.{Node, Cat, Alt}
 use Rattle.glushkov.specs.declared.data.Counts.{Counts}
-use Rattle.tables.specs.Masks.{no_set}
+use Rattle.glushkov.specs.Nodes.{tree_in}
+use Rattle.tables.specs.Masks.{no_place}
 use Rattle.glushkov.specs.Passes.{CountsOf, Outside, low_in, width_in}
 
 outside_left : (x y o p : ℕ) → Outside o (x + y) p → Outside o x p
@@ -54,11 +57,11 @@ pub side : (p m : ℕ) → (p ≤ m) ⊎ (m < p)
 side p m = elim (cases_lt m p) [ inl h ↦ inr h | inr h ↦ inl h ]
 
 module _ (x y : Tree) (o : ℕ) (b : Option (ℕ × ℕ)) (old mid new : Counts) (l : CountsOf x o b old mid) (r : CountsOf y (o + size x) b mid new) where
-  both_sets : (p s : ℕ) → o < p → p ≤ o + (size x + size y) → member (get_or new.sets p no_set) s ≡ holdsb (cat x y) o p s
+  both_sets : (p s : ℕ) → o < p → p ≤ o + (size x + size y) → member (get_or new.each p no_place).codes s ≡ holdsb (cat x y) o p s
   both_sets p s h k =
       elim (side p (o + size x)) [
         | inl t ↦
-            let u : member (get_or new.sets p no_set) s ≡ holdsb x o p s = ap (λ (v : Set64). member v s) (r.other_sets p (inl t)) ∙ l.sets p s h t in
+            let u : member (get_or new.each p no_place).codes s ≡ holdsb x o p s = ap (λ (v : Place). member v.codes s) (r.other_places p (inl t)) ∙ l.sets p s h t in
             let v = holds_outside y (o + size x) p s (inl t) in
             grind (arith, nat_tests)
         | inr t ↦
@@ -74,10 +77,10 @@ module _ (x y : Tree) (o : ℕ) (b : Option (ℕ × ℕ)) (old mid new : Counts)
         | inr t ↦ r.widths p t (omega arith) ∙ sym (width_right b x y o p t)
       ]
 
-  both_lows : (p : ℕ) → o < p → p ≤ o + (size x + size y) → get_or new.lows p 0 ≡ low_in b (cat x y) o p
+  both_lows : (p : ℕ) → o < p → p ≤ o + (size x + size y) → (get_or new.each p no_place).low ≡ low_in b (cat x y) o p
   both_lows p h k =
       elim (side p (o + size x)) [
-        | inl t ↦ r.other_lows p (inl t) ∙ l.lows p h t ∙ sym (low_left b x y o p t)
+        | inl t ↦ ap (λ (v : Place). v.low) (r.other_places p (inl t)) ∙ l.lows p h t ∙ sym (low_left b x y o p t)
         | inr t ↦ r.lows p t (omega arith) ∙ sym (low_right b x y o p t)
       ]
 
@@ -87,22 +90,27 @@ module _ (x y : Tree) (o : ℕ) (b : Option (ℕ × ℕ)) (old mid new : Counts)
         sets = both_sets;
         widths = both_widths;
         lows = both_lows;
-        other_sets = λ p h. r.other_sets p (outside_right (size x) (size y) o p h) ∙ l.other_sets p (outside_left (size x) (size y) o p h);
+        other_places = λ p h. r.other_places p (outside_right (size x) (size y) o p h) ∙ l.other_places p (outside_left (size x) (size y) o p h);
         other_widths = λ p h. r.other_widths p (outside_right (size x) (size y) o p h) ∙ l.other_widths p (outside_left (size x) (size y) o p h);
-        other_lows = λ p h. r.other_lows p (outside_right (size x) (size y) o p h) ∙ l.other_lows p (outside_left (size x) (size y) o p h);
       }
-
-pub cat_counts :
-    (x y : Tree) (o m : ℕ) (b : Option (ℕ × ℕ)) (old mid new : Counts) → m ≡ o + size x → CountsOf x o b old mid → CountsOf y m b mid new
-    → CountsOf (cat x y) o b old new
-cat_counts x y o m b old mid new e l r = both x y o b old mid new l (subst (λ v. CountsOf y v b mid new) e r)
 
 -- Alternatives have the places of a sequence.
 as_alt : (b : Option (ℕ × ℕ)) (x y : Tree) (o : ℕ) (old new : Counts) → CountsOf (cat x y) o b old new → CountsOf (alt x y) o b old new
-as_alt None x y o old new c = record { sets = c.sets; widths = c.widths; lows = c.lows; other_sets = c.other_sets; other_widths = c.other_widths; other_lows = c.other_lows }
-as_alt (Some b) x y o old new c = record { sets = c.sets; widths = c.widths; lows = c.lows; other_sets = c.other_sets; other_widths = c.other_widths; other_lows = c.other_lows }
+as_alt None x y o old new c = record { sets = c.sets; widths = c.widths; lows = c.lows; other_places = c.other_places; other_widths = c.other_widths }
+as_alt (Some b) x y o old new c = record { sets = c.sets; widths = c.widths; lows = c.lows; other_places = c.other_places; other_widths = c.other_widths }
 
-pub alt_counts :
-    (x y : Tree) (o m : ℕ) (b : Option (ℕ × ℕ)) (old mid new : Counts) → m ≡ o + size x → CountsOf x o b old mid → CountsOf y m b mid new
-    → CountsOf (alt x y) o b old new
-alt_counts x y o m b old mid new e l r = as_alt b x y o old new (cat_counts x y o m b old mid new e l r)
+-- A sequence or alternatives have the places of both parts.
+module _ {n : Node} {a b : Box Node Global} where
+  pub pair_size : (n ≡ Cat a b) ⊎ (n ≡ Alt a b) → size (tree_in n) ≡ size (tree_in a.value) + size (tree_in b.value)
+  pair_size (inl e) = ap (λ v. size (tree_in v)) e
+  pair_size (inr e) = ap (λ v. size (tree_in v)) e
+
+  pub pair_counts :
+      (o m : ℕ) (bounds : Option (ℕ × ℕ)) (old mid new : Counts) → (n ≡ Cat a b) ⊎ (n ≡ Alt a b) → m ≡ o + size (tree_in a.value)
+      → CountsOf (tree_in a.value) o bounds old mid → CountsOf (tree_in b.value) m bounds mid new → CountsOf (tree_in n) o bounds old new
+  pair_counts o m bounds old mid new is e l r =
+      let c = both (tree_in a.value) (tree_in b.value) o bounds old mid new l (subst (λ v. CountsOf (tree_in b.value) v bounds mid new) e r) in
+      elim is [
+        | inl i ↦ subst (λ v. CountsOf v o bounds old new) (sym (ap tree_in i)) c
+        | inr i ↦ subst (λ v. CountsOf v o bounds old new) (sym (ap tree_in i)) (as_alt bounds _ _ o old new c)
+      ]

@@ -1,4 +1,3 @@
-mod LinksAdded
 mod LinkLaws
 mod CountLaws
 mod WidthSums

@@ -11,6 +11,7 @@ use Rattle.grammar.specs.declared.tree.Node.{Node, Leaf, Class}
 use Rattle.grammar.specs.declared.tree.Times.{Times}
 use Rattle.grammar.specs.declared.tree.Times.TheVariants.{Star, Plus, Opt, Counted}
 use Rattle.syntax.specs.TextLanguage.{repeated}
+use Rattle.tables.specs.declared.places.PlaceSet.{PlaceSet}
 use Rattle.tables.specs.declared.table.LinkRow.{LinkRow}
 use Rattle.glushkov.specs.declared.data.Part.{Part}
 use Rattle.tables.specs.declared.links.Link.{Link}
@@ -38,16 +39,16 @@ bit_joined k true x m y e = ap (λ v. bit v k) e ∙ bit_of_or x m k
 bit_joined k false x m y e = let h : bit y k ≡ bit x k = ap (λ v. bit v k) e in grind (arith, nat_tests)
 
 -- A link from each place of one set to each place of another.
-abbrev pub Joined : Set64 → Set64 → Link → List LinkRow → List LinkRow → Type 0
+abbrev pub Joined : PlaceSet → PlaceSet → Link → List LinkRow → List LinkRow → Type 0
 Joined ls fs link old new = (p q : ℕ) → mask_at new p q ≡ joined (has_place ls p && has_place fs q) (mask_at old p q) (mask_of link)
 
 -- The meetings of a joint: within inside a counted repeat's body, else cross.
-pub record Met (inside : Bool) (ls fs : Set64) (old new : List LinkRow) : Type 0 where
+pub record Met (inside : Bool) (ls fs : PlaceSet) (old new : List LinkRow) : Type 0 where
   pub withins : (p q : ℕ) → within (mask_at new p q) ≡ (within (mask_at old p q) || cond inside (has_place ls p && has_place fs q) false)
   pub nexts : (p q : ℕ) → next (mask_at new p q) ≡ next (mask_at old p q)
   pub crosses : (p q : ℕ) → cross (mask_at new p q) ≡ (cross (mask_at old p q) || cond inside false (has_place ls p && has_place fs q))
 
-pub met_joined : (inside : Bool) (ls fs : Set64) (old new : List LinkRow) → Joined ls fs (meeting inside) old new → Met inside ls fs old new
+pub met_joined : (inside : Bool) (ls fs : PlaceSet) (old new : List LinkRow) → Joined ls fs (meeting inside) old new → Met inside ls fs old new
 met_joined true ls fs old new j =
     let b = mask_within in
     record {
@@ -113,7 +114,7 @@ rep_links a o i lo hi old mid new r h l j =
     }
 
 -- The link again, where there is one.
-abbrev pub JoinedAgain : Set64 → Set64 → Option Link → List LinkRow → List LinkRow → Type 0
+abbrev pub JoinedAgain : PlaceSet → PlaceSet → Option Link → List LinkRow → List LinkRow → Type 0
 JoinedAgain ls fs None old new = new ≡ old
 JoinedAgain ls fs (Some link) old new = Joined ls fs link old new
 

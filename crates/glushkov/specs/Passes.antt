@@ -8,7 +8,7 @@ use Rattle.bits.specs.Members.{member}
 use Rattle.glushkov.specs.declared.data.Counts.{Counts}
 use Rattle.tables.specs.declared.table.LinkRow.{LinkRow}
 use Rattle.glushkov.specs.declared.data.Part.{Part}
-use Rattle.tables.specs.Masks.{mask_at, within, next, cross, has_place, no_set}
+use Rattle.tables.specs.Masks.{mask_at, within, next, cross, has_place, no_place}
 
 -- What is told of a part.
 pub record PartOf (e : Tree) (o : ℕ) (r : Part) : Type 0 where
@@ -38,12 +38,11 @@ Outside o n p = (p ≤ o) ⊎ (o + n < p)
 
 -- The places of the part have their codes, widths and lows; the others have what they had.
 pub record CountsOf (e : Tree) (o : ℕ) (b : Option (ℕ × ℕ)) (old new : Counts) : Type 0 where
-  pub sets : (p s : ℕ) → o < p → p ≤ o + size e → member (slice_index_or new.sets p no_set) s ≡ holdsb e o p s
+  pub sets : (p s : ℕ) → o < p → p ≤ o + size e → member (slice_index_or new.each p no_place).codes s ≡ holdsb e o p s
   pub widths : (p : ℕ) → o < p → p ≤ o + size e → slice_index new.widths p ≡ width_in b e o p
-  pub lows : (p : ℕ) → o < p → p ≤ o + size e → slice_index new.lows p ≡ low_in b e o p
-  pub other_sets : (p : ℕ) → Outside o (size e) p → slice_index_or new.sets p no_set ≡ slice_index_or old.sets p no_set
+  pub lows : (p : ℕ) → o < p → p ≤ o + size e → (slice_index_or new.each p no_place).low ≡ low_in b e o p
+  pub other_places : (p : ℕ) → Outside o (size e) p → slice_index_or new.each p no_place ≡ slice_index_or old.each p no_place
   pub other_widths : (p : ℕ) → Outside o (size e) p → slice_index new.widths p ≡ slice_index old.widths p
-  pub other_lows : (p : ℕ) → Outside o (size e) p → slice_index new.lows p ≡ slice_index old.lows p
 
 -- The low and the width of a place outside every counted repeat are 1 and 1.
 abbrev pub bounds_or : Option (ℕ × ℕ) → ℕ × ℕ
@@ -52,15 +51,14 @@ bounds_or (Some b) = b
 
 -- One place is written.
 pub record Written (p : ℕ) (codes : Set64) (b : ℕ × ℕ) (old new : Counts) : Type 0 where
-  pub sets : (q : ℕ) → slice_index_or new.sets q no_set ≡ cond (q == p) codes (slice_index_or old.sets q no_set)
+  pub places : (q : ℕ) → slice_index_or new.each q no_place ≡ cond (q == p) (record { codes = codes; low = b.0 }) (slice_index_or old.each q no_place)
   pub widths : (q : ℕ) → slice_index new.widths q ≡ cond (q == p) b.1 (slice_index old.widths q)
-  pub lows : (q : ℕ) → slice_index new.lows q ≡ cond (q == p) b.0 (slice_index old.lows q)
 
 -- Before the passes: no place but the start, which has width 1 and low 1.
 pub record FreshCounts (c : Counts) : Type 0 where
-  pub sets : (p s : ℕ) → member (slice_index_or c.sets p no_set) s ≡ false
+  pub sets : (p s : ℕ) → member (slice_index_or c.each p no_place).codes s ≡ false
   pub widths : (p : ℕ) → slice_index c.widths p ≡ cond (p == 0) 1 0
-  pub lows : (p : ℕ) → slice_index c.lows p ≡ cond (p == 0) 1 0
+  pub lows : (p : ℕ) → (slice_index_or c.each p no_place).low ≡ cond (p == 0) 1 0
 
 -- Before the passes: no links.
 abbrev pub FreshRows : List LinkRow → Type 0

@@ -1,9 +1,8 @@
-ghost use Rattle.std.specs.Prelude.{◌≡◌, ℕ, ◌≤◌, MatchOption};
+ghost use Rattle.std.specs.Prelude.{◌≡◌, ◌≤◌, MatchOption};
 ghost use Rattle.automata.specs.Places.{size};
 ghost use Rattle.glushkov.specs.Nodes.{tree_in};
 ghost use Rattle.glushkov.specs.Passes.{FreshCounts, FreshRows};
 ghost use Rattle.tables.specs.Tables.{Roomy, TableOf};
-ghost use Rattle.tables.specs.Masks.{mask_in};
 
 use crate::counts::{count, fill};
 use crate::data::Counts;
@@ -25,26 +24,16 @@ fn fresh_counts() -> Counts
     each[0].low = 1;
     let mut widths = [0; 65];
     widths[0] = 1;
-    Counts {
-        each,
-        widths,
-    }
-}
-
-// A row without links.
-fn no_links() -> LinkRow
-    ensures { (q : ℕ) → mask_in result q ≡ 0 }
-{
-    LinkRow {
-        to: [Links::none(); 65],
-    }
+    Counts { each, widths }
 }
 
 // No links.
 fn fresh_rows() -> [LinkRow; 65]
     ensures { FreshRows result }
 {
-    [no_links(); 65]
+    [LinkRow {
+        to: [Links::none(); 65],
+    }; 65]
 }
 
 // The table of a tree of so many places, or `None` where its widths break the rules of `Widths`.

@@ -1,7 +1,15 @@
-ghost use Rattle.std.specs.Prelude.{◌≡◌, ℕ, ◌+◌, ◌<◌, ◌≤◌, if◌then◌else◌, MatchOption, nat_eq, slice_index};
+ghost use Rattle.std.specs.Prelude.{◌≡◌, ℕ, ◌+◌, ◌<◌, ◌≤◌, if◌then◌else◌, length, sum, MatchOption, nat_eq, slice_index};
 ghost use Rattle.widths.specs.Width.{width_of, width_in, widths_of, base_of, Sound};
 
 use crate::data::{Layout, Widths};
+
+// What all widths add to.
+fn total(widths: &[u16]) -> u32
+    requires { length widths.now ≤ 65 }
+    ensures { result ≡ sum widths.now }
+{
+    widths.iter().map(|width| u32::from(*width)).sum()
+}
 
 impl Widths {
     /// The widths as given, by place, or `None` where they break a rule: the start's is 1, each is at most 1,000,
@@ -9,17 +17,7 @@ impl Widths {
     pub fn of(given: &[u16; 65]) -> Option<Widths>
         ensures { MatchOption result (Sound given.now → ⊥) (λ w. (Sound given.now) × ((p : ℕ) → width_of w p ≡ slice_index given.now p)) }
     {
-        if given[0] != 1 {
-            return None;
-        }
-        let mut total: u32 = 0;
-        for p in 0..65 {
-            if given[p] > 1000 {
-                return None;
-            }
-            total += u32::from(given[p]);
-        }
-        if total > 4096 {
+        if given[0] != 1 || given.iter().any(|width| *width > 1000) || total(given) > 4096 {
             return None;
         }
         let widths = *given;
@@ -39,7 +37,7 @@ impl Widths {
     pub fn at(&self, p: usize) -> u16
         ensures { result ≡ width_of self.now p }
     {
-        if p < 65 { self.widths[p] } else { 0 }
+        self.widths.get(p).copied().unwrap_or(0)
     }
 }
 
@@ -47,10 +45,7 @@ impl Widths {
 pub fn width_in(plan: &Option<Widths>, p: usize) -> u16
     ensures { result ≡ width_in plan.now p }
 {
-    match plan {
-        Some(widths) => widths.at(p),
-        None => 0,
-    }
+    plan.as_ref().map_or(0, |widths| widths.at(p))
 }
 
 impl Layout {
@@ -60,9 +55,9 @@ impl Layout {
     {
         let mut bases: [u16; 65] = [0; 65];
         let mut next: u16 = 0;
-        for p in 0..65 {
-            bases[p] = next;
-            next += widths.widths[p];
+        for (p, base) in bases.iter_mut().enumerate() {
+            *base = next;
+            next += widths.at(p);
         }
         let widths = *widths;
         Layout { widths, bases }
@@ -73,11 +68,8 @@ impl Layout {
         ensures { MatchOption result (65 ≤ p) (λ b. (p < 65) × (b ≡ base_of (widths_of self.now) p) × (b + width_of (widths_of self.now) p ≤ 4096)
             × ((q : ℕ) → p < q → b + width_of (widths_of self.now) p ≤ base_of (widths_of self.now) q)) }
     {
-        if p < 65 {
-            Some(self.bases[p] as usize)
-        } else {
-            None
-        }
+        let base = self.bases.get(p)?;
+        Some(usize::from(*base))
     }
 
     /// The width of place `p`, and 0 where there is no such place.

@@ -1,7 +1,7 @@
 ghost use Rattle.std.specs.Prelude.{◌≡◌, ℕ, ◌+◌, ◌<◌, ◌≤◌, length, take, sum, slice_index};
 
 /// The width of each place, by its number. Place 0 is the start.
-#[derive(Clone, Copy)]
+#[derive(Clone, Copy, PartialEq, Eq, Debug)]
 pub struct Widths {
     pub(crate) widths: [u16; 65],
     ghost long: { length widths ≡ 65 },
@@ -11,7 +11,8 @@ pub struct Widths {
 }
 
 /// Where the counts of each place begin in one row of all counts: after those of the places before it.
-#[derive(Clone, Copy)]
+// Two lists by place, and not one of pairs: its clauses name `Widths` whole, as banks do.
+#[derive(Clone, Copy, PartialEq, Eq, Debug)]
 pub struct Layout {
     pub(crate) widths: Widths,
     pub(crate) bases: [u16; 65],

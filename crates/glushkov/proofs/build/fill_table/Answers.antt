@@ -14,5 +14,5 @@ returns c =
     let e = tree_in c.args.node.now in
     let linked = start_linked c.link-part.new.rows _ c.join_row.new.row c.link-part.result.firsts (omega arith) c.join_row.ensures in
     table_made e _ c.fresh_counts-counts.result c.fill-last.new.out c.fresh_rows-links.result c.link-part.new.rows c.link-part.result
-    (c.requires.0 ∙ sym (zero-add _)) c.fresh_counts-counts.ensures c.fill-last.ensures.counts refl c.in_ok-widths.ensures.1 refl
+    (c.requires.0 ∙ sym (zero-add _)) c.fresh_counts-counts.ensures c.fill-last.ensures.counts refl c.in_ok-widths.ensures.1
     c.link-part.ensures.part refl refl c.fresh_rows-links.ensures c.link-part.ensures.links linked

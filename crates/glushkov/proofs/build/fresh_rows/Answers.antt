@@ -3,4 +3,4 @@ use Rattle.glushkov.proofs.TableMade.{fresh_masks}
 use Rattle.glushkov.proofs.build.fresh_rows.Goals as goal
 
 pub returns : goal.returns
-returns c = (refl, fresh_masks c.no_links.result c.no_links.ensures)
+returns c = (refl, fresh_masks _ c.none.result refl c.none.ensures)
