@@ -9,6 +9,7 @@
 
 #![tactic(auto)]
 
+mod area;
 mod hints;
 mod nearest;
 mod needs;

@@ -1,15 +1,13 @@
 ghost use Rattle.std.specs.Prelude.{◌≡◌, ℕ, ◌+◌};
 ghost use Rattle.automata.specs.Language.{Tree};
 ghost use Rattle.tables.specs.Tables.{TableOf};
-ghost use Rattle.widths.specs.Width.{widths_of};
-ghost use Rattle.distances.specs.Marks.{mark_at};
+ghost use Rattle.distances.specs.Marks.{mark_of};
 ghost use Rattle.steps.specs.Fronts.{Fresh};
 ghost use Rattle.completions.specs.Nearest.{before, improving, LeastMark};
 
 use banks::Bank;
-use distances::mark_of;
+use distances::Marks;
 use tables::Table;
-use widths::Layout;
 
 // A pair of the front, and its distance to a pair that accepts.
 #[derive(Clone, Copy)]
@@ -23,24 +21,14 @@ pub(crate) struct Found {
 fn improves(old: Option<Found>, mark: u16) -> bool
     ensures { result ≡ improving old mark }
 {
-    match old {
-        Some(found) => mark != 0 && mark <= found.distance,
-        None => mark != 0,
-    }
+    mark != 0 && old.is_none_or(|found| mark <= found.distance)
 }
 
 // The nearer of what was found before and the pair (p, i), if it stands.
-fn nearer<B: Bank>(
-    bank: &B,
-    layout: &Layout,
-    area: &[u16],
-    p: usize,
-    i: u16,
-    old: Option<Found>,
-) -> Option<Found>
-    ensures { B.means.standing bank.now → LeastMark (mark_at (widths_of layout.now) area.now) (before (B.means.front bank.now) p i) old → LeastMark (mark_at (widths_of layout.now) area.now) (before (B.means.front bank.now) p (i + 1)) result }
+fn nearer<B: Bank>(bank: &B, marks: &Marks, p: usize, i: u16, old: Option<Found>) -> Option<Found>
+    ensures { B.means.standing bank.now → LeastMark (mark_of marks.now) (before (B.means.front bank.now) p i) old → LeastMark (mark_of marks.now) (before (B.means.front bank.now) p (i + 1)) result }
 {
-    let mark = mark_of(layout, area, p, i);
+    let mark = marks.at(p, i);
     if improves(old, mark) && bank.look(p, i, i) {
         return Some(Found {
             place: p,
@@ -55,31 +43,29 @@ fn nearer<B: Bank>(
 fn nearest_at<B: Bank>(
     table: &Table,
     bank: &B,
-    layout: &Layout,
-    area: &[u16],
+    marks: &Marks,
     p: usize,
     old: Option<Found>,
 ) -> Option<Found>
-    ensures { widths_of layout.now ≡ table.now.widths → Fresh B.means table.now bank.now → LeastMark (mark_at (widths_of layout.now) area.now) (before (B.means.front bank.now) p 1) old → LeastMark (mark_at (widths_of layout.now) area.now) (before (B.means.front bank.now) (p + 1) 1) result }
+    ensures { Fresh B.means table.now bank.now → LeastMark (mark_of marks.now) (before (B.means.front bank.now) p 1) old → LeastMark (mark_of marks.now) (before (B.means.front bank.now) (p + 1) 1) result }
 {
     let width = table.width_at(p);
     let mut best = old;
     if bank.look(p, 1, width) {
-        for k in 0..width {
-            best = nearer(bank, layout, area, p, k + 1, best);
+        for i in 1..=width {
+            best = nearer(bank, marks, p, i, best);
         }
     }
     best
 }
 
 // The pair of the front with the least mark, 0 apart.
-pub(crate) fn nearest<B: Bank>(table: &Table, bank: &B, area: &[u16]) -> Option<Found>
-    ensures { (e : Tree) → TableOf e table.now → Fresh B.means table.now bank.now → LeastMark (mark_at table.now.widths area.now) (B.means.front bank.now) result }
+pub(crate) fn nearest<B: Bank>(table: &Table, bank: &B, marks: &Marks) -> Option<Found>
+    ensures { (e : Tree) → TableOf e table.now → Fresh B.means table.now bank.now → LeastMark (mark_of marks.now) (B.means.front bank.now) result }
 {
-    let layout = Layout::of(&table.widths());
     let mut best = None;
-    for p in 0..table.places() + 1 {
-        best = nearest_at(table, bank, &layout, area, p, best);
+    for p in 0..=table.places() {
+        best = nearest_at(table, bank, marks, p, best);
     }
     best
 }

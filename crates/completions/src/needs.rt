@@ -3,9 +3,8 @@ ghost use Rattle.refusals.specs.declared.Refusal.TheVariants.{Work};
 ghost use Rattle.steps.specs.Fronts.{Fresh};
 ghost use Rattle.completions.specs.Answers.{FullArea, Cleared, NeedOf, Right};
 
-use crate::nearest::nearest;
+use crate::area::measured;
 use banks::Bank;
-use distances::{measure, wipe};
 use refusals::Refusal;
 use tables::Table;
 
@@ -16,13 +15,7 @@ pub fn need_of<B: Bank>(table: &Table, bank: &B, area: &mut [u16]) -> Result<u16
     ensures short { length area.old < 4096 → result ≡ Err Work }
     ensures answer { FullArea area.old → Fresh B.means table.now bank.now → Right NeedOf table.now (B.means.front bank.now) result }
 {
-    if !measure(table, area) {
-        return Err(Refusal::Work);
-    }
-    let found = nearest(table, bank, area);
-    wipe(area);
-    match found {
-        Some(pair) => Ok(pair.distance),
-        None => Err(Refusal::Stuck),
-    }
+    measured(table, bank, area, |_, found| {
+        found.map(|pair| pair.distance).ok_or(Refusal::Stuck)
+    })
 }

@@ -5,7 +5,7 @@ use Rattle.std.proofs.lemmas.Bool.{cases_lt}
 use Rattle.std.proofs.lemmas.Bool.Decides.{nat_tests}
 use Rattle.widths.specs.Width.{widths_of}
 use Rattle.distances.specs.declared.graph.Graph.{Graph}
-use Rattle.distances.specs.Graphs.{Pair, Link, mark_in, number_in}
+use Rattle.distances.specs.Graphs.{Pair, Leads, mark_in, number_in}
 use Rattle.distances.specs.Search.{Ground, Settled}
 use Rattle.distances.proofs.Numbers.{number_inner, total_room}
 
@@ -29,7 +29,7 @@ tally_more m (x ∷ xs) (suc k) h e = let t = tally_more m xs k (omega arith) e 
 
 module _ (g : Graph) (l : List ℕ) (long : 4096 ≤ length l) (ground : Ground g l) (settled : (p i : ℕ) → Pair g p i → Settled g l p i) where
   -- a mark above 1 has the mark below it one link on
-  pub mark_steps : (p i m : ℕ) → Pair g p i → mark_in g l p i ≡ suc (suc m) → (q : ℕ) × (j : ℕ) × Link g p i q j × (mark_in g l q j ≡ suc m)
+  pub mark_steps : (p i m : ℕ) → Pair g p i → mark_in g l p i ≡ suc (suc m) → (q : ℕ) × (j : ℕ) × Leads g p i q j × (mark_in g l q j ≡ suc m)
   mark_steps p i m d e =
       let (q, j, k, some, less) = ground.more p i d (omega arith) in
       let b = ground.small p i d in

@@ -8,3 +8,4 @@ pub mod Sweeps
 pub mod Closing
 pub mod Trees
 pub mod Once
+pub mod Chunks

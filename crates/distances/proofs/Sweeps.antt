@@ -4,10 +4,10 @@ use Rattle.std.proofs.lemmas.Bool.{both_ways}
 use Rattle.std.proofs.lemmas.Bool.Decides.{nat_tests}
 use Rattle.distances.specs.declared.graph.Graph.{Graph}
 use Rattle.distances.specs.Graphs.{Pair}
-use Rattle.distances.specs.Search.{Ground, Settled, Swept, rest}
+use Rattle.distances.specs.Search.{Ground, Settled, Swept, Sweeps, rest}
 
 -- nothing is written
-pub swept_none : (g : Graph) (l : List ℕ) (V : ℕ → ℕ → Type 0) → Ground g l → ((p i : ℕ) → V p i → Pair g p i → Settled g l p i) → Swept g l l V false
+swept_none : (g : Graph) (l : List ℕ) (V : ℕ → ℕ → Type 0) → Ground g l → ((p i : ℕ) → V p i → Pair g p i → Settled g l p i) → Swept g l l V false
 swept_none g l V ground h = record {
   ground = ground;
   behind = λ k _. refl;
@@ -16,7 +16,7 @@ swept_none g l V ground h = record {
 }
 
 -- fewer pairs
-pub swept_fewer : (g : Graph) (l m : List ℕ) (V W : ℕ → ℕ → Type 0) (b : Bool) → ((p i : ℕ) → W p i → Pair g p i → V p i) → Swept g l m V b → Swept g l m W b
+swept_fewer : (g : Graph) (l m : List ℕ) (V W : ℕ → ℕ → Type 0) (b : Bool) → ((p i : ℕ) → W p i → Pair g p i → V p i) → Swept g l m V b → Swept g l m W b
 swept_fewer g l m V W b f s = record {
   ground = s.ground;
   behind = s.behind;
@@ -31,7 +31,7 @@ falls_join k l m false true fa sa fb sb e = let x : rest l ≡ rest k = ap rest 
 falls_join k l m false false fa sa fb sb e = absurd (both_ways false refl e)
 
 -- one sweep after another covers what either covers
-pub swept_more : (g : Graph) (k l m : List ℕ) (V W U : ℕ → ℕ → Type 0) (a b : Bool) → ((p i : ℕ) → U p i → Pair g p i → V p i ⊎ W p i) → Swept g k l V a → Swept g l m W b → Swept g k m U (a || b)
+swept_more : (g : Graph) (k l m : List ℕ) (V W U : ℕ → ℕ → Type 0) (a b : Bool) → ((p i : ℕ) → U p i → Pair g p i → V p i ⊎ W p i) → Swept g k l V a → Swept g l m W b → Swept g k m U (a || b)
 swept_more g k l m V W U a b f s t = record {
   ground = t.ground;
   behind = λ x h. t.behind x h ∙ s.behind x h;
@@ -47,3 +47,13 @@ swept_more g k l m V W U a b f s t = record {
             (f p i u d),
       );
 }
+
+-- the same of sweeps of grounded marks
+pub sweeps_none : (g : Graph) (l : List ℕ) (V : ℕ → ℕ → Type 0) → ((p i : ℕ) → V p i → Pair g p i → ⊥) → Sweeps g l l V false
+sweeps_none g l V h = λ ground. swept_none g l V ground (λ p i v d. absurd (h p i v d))
+
+pub sweeps_fewer : (g : Graph) (l m : List ℕ) (V W : ℕ → ℕ → Type 0) (b : Bool) → ((p i : ℕ) → W p i → Pair g p i → V p i) → Sweeps g l m V b → Sweeps g l m W b
+sweeps_fewer g l m V W b f s = λ ground. swept_fewer g l m V W b f (s ground)
+
+pub sweeps_more : (g : Graph) (k l m : List ℕ) (V W U : ℕ → ℕ → Type 0) (a b : Bool) → ((p i : ℕ) → U p i → Pair g p i → V p i ⊎ W p i) → Sweeps g k l V a → Sweeps g l m W b → Sweeps g k m U (a || b)
+sweeps_more g k l m V W U a b f s t = λ ground. let x = s ground in swept_more g k l m V W U a b f x (t x.ground)

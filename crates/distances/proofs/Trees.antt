@@ -13,7 +13,7 @@ use Rattle.widths.specs.Width.{width_of, widths_of, base_of}
 use Rattle.tables.specs.Masks.{has_place}
 use Rattle.tables.specs.Tables.{TableOf, low_of}
 use Rattle.distances.specs.declared.graph.Graph.{Graph}
-use Rattle.distances.specs.Graphs.{Pair, Goes, Link, accepting, mark_in, width_in}
+use Rattle.distances.specs.Graphs.{Pair, Goes, Leads, accepting, mark_in, width_in}
 use Rattle.distances.specs.Marks.{mark_at}
 use Rattle.distances.specs.Search.{Ground, Settled}
 use Rattle.distances.proofs.Closing.{mark_steps, mark_small}
@@ -60,7 +60,7 @@ module _ (e : Tree) (formed : WellFormed e) (g : Graph) (of : TableOf e g.table)
       let w = width_is p a in
       (omega arith, b, omega arith)
 
-  link_to : (p i q j : ℕ) → Inside e p i → Link g p i q j → TreeLink e p i q j
+  link_to : (p i q j : ℕ) → Inside e p i → Leads g p i q j → TreeLink e p i q j
   link_to p i q j f (x, y, inl (k, d)) = inl (inl ((of.withins p q).0 k, d))
   link_to p i q j f (x, y, inr (inl (k, l, d))) =
       let w = width_is p f.0 in
@@ -71,7 +71,7 @@ module _ (e : Tree) (formed : WellFormed e) (g : Graph) (of : TableOf e g.table)
       crossed (inl c) = let w = low_is p f.0 in inl (inr (inr (c, omega arith, d)))
       crossed (inr (z, c)) = inr (z, c, f.1, d)
 
-  link_of : (p i q j : ℕ) → Inside e p i → TreeLink e p i q j → Link g p i q j
+  link_of : (p i q j : ℕ) → Inside e p i → TreeLink e p i q j → Leads g p i q j
   link_of p i q j f k = (inside_pair q j (link_inside e p i q j formed f k), (link_range e p i q j k).0, go k)
     where
       go : TreeLink e p i q j → Goes g p i q j

@@ -5,7 +5,7 @@ use Rattle.std.proofs.lemmas.Bool.{cases_eq}
 use Rattle.std.proofs.lemmas.Bool.Decides.{nat_tests}
 use Rattle.widths.specs.Width.{widths_of, base_of}
 use Rattle.distances.specs.declared.graph.Graph.{Graph}
-use Rattle.distances.specs.Graphs.{Pair, Link, accepting, mark_in, number_in}
+use Rattle.distances.specs.Graphs.{Pair, Leads, accepting, mark_in, number_in}
 use Rattle.distances.specs.Search.{Better, Grounded, Ground, Settled, Behind, rest}
 use Rattle.distances.proofs.Numbers.{number_inner, number_apart, total_room}
 
@@ -103,7 +103,7 @@ ground_zero g l zeros = record {
 
 -- The mark r of (p, i), the best that its links allow, is written at k.
 module _ (g : Graph) (l : List ℕ) (long : 4096 ≤ length l) (p i r k : ℕ) (d : Pair g p i) (k-is : k ≡ number_in g p i)
-    (ground : Ground g l) (b : Better (mark_in g l) (Link g p i) (cond (accepting g p i) 1 0) r) where
+    (ground : Ground g l) (b : Better (mark_in g l) (Leads g p i) (cond (accepting g p i) 1 0) r) where
   inner : k < base_of (widths_of g.layout) 65
   inner = let h = number_inner g p i d in omega arith
 
@@ -113,7 +113,7 @@ module _ (g : Graph) (l : List ℕ) (long : 4096 ≤ length l) (p i r k : ℕ) (
   first_small : cond (accepting g p i) 1 0 ≤ 4097
   first_small = grind (arith, nat_tests)
 
-  rests_on : 1 ≤ r → Rests (Link g) (accepting g) (mark_in g l) p i r
+  rests_on : 1 ≤ r → Rests (Leads g) (accepting g) (mark_in g l) p i r
   rests_on some = ⊎_elim
       (λ (e : r ≡ cond (accepting g p i) 1 0). inl (grind (arith, nat_tests), grind (arith, nat_tests)))
       (λ s. inr s)
@@ -121,7 +121,7 @@ module _ (g : Graph) (l : List ℕ) (long : 4096 ≤ length l) (p i r k : ℕ) (
 
   pub write_ground : 1 ≤ r → (get_or l k 0 ≡ 0) ⊎ (r < get_or l k 0) → Ground g (set l k r)
   write_ground some better =
-      grounded_write (Pair g) (Link g) (accepting g) (mark_in g l) (mark_in g (set l k r)) (λ a b c d x. x.0) p i r (rests_on some) some (b.small first_small)
+      grounded_write (Pair g) (Leads g) (accepting g) (mark_in g l) (mark_in g (set l k r)) (λ a b c d x. x.0) p i r (rests_on some) some (b.small first_small)
       (subst (λ (v : ℕ). (get_or l v 0 ≡ 0) ⊎ (r < get_or l v 0)) k-is better)
       (subst (λ (v : ℕ). get_or (set l k r) v 0 ≡ r) k-is (get_or-set_same l k r 0 within_area))
       (λ c e x.

@@ -29,8 +29,8 @@ Goes g p i q j =
     ((cross (links_of g.table p q) ≡ true) × (low_of g.table p ≤ i) × (j ≡ 1)))
 
 -- A link leads from (p, i) to the pair (q, j), which is not at the start.
-abbrev pub Link : Graph → ℕ → ℕ → ℕ → ℕ → Type 0
-Link g p i q j = Pair g q j × (1 ≤ q) × Goes g p i q j
+abbrev pub Leads : Graph → ℕ → ℕ → ℕ → ℕ → Type 0
+Leads g p i q j = Pair g q j × (1 ≤ q) × Goes g p i q j
 
 -- (p, i) accepts: the start does where the pattern is nullable, and a last does from its low on.
 abbrev pub accepting : Graph → ℕ → ℕ → Bool

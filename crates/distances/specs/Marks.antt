@@ -3,13 +3,18 @@ use Rattle.std.specs.Prelude.{◌≡◌, ℕ, ◌+◌, ◌-◌, ◌<◌, ◌≤�
 use Rattle.automata.specs.Language.{Tree, WellFormed}
 use Rattle.automata.specs.Distances.{Labelled}
 use Rattle.widths.specs.declared.data.Widths.{Widths}
-use Rattle.widths.specs.Width.{width_of, base_of}
+use Rattle.widths.specs.Width.{width_of, widths_of, base_of}
 use Rattle.tables.specs.declared.table.Table.{Table}
 use Rattle.tables.specs.Tables.{TableOf}
+use Rattle.distances.specs.declared.marks.Marks.{Marks}
 
 -- The mark of the pair (p, i): the marks stand place after place, each place's by count from 1. It is 0 where the place p has no count i.
 abbrev pub mark_at : Widths → List ℕ → ℕ → ℕ → ℕ
 mark_at w area p i = cond (nat_le 1 i && nat_le i (width_of w p)) (slice_index area (base_of w p + (i - 1))) 0
+
+-- The mark of the pair (p, i) in an area, by the widths that it was laid out by.
+abbrev pub mark_of : Marks → ℕ → ℕ → ℕ
+mark_of m p i = mark_at (widths_of m.layout) m.area.now p i
 
 -- The numbers from 4,096 on are as before.
 abbrev pub Beyond : List ℕ → List ℕ → Type 0

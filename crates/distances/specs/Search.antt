@@ -1,8 +1,13 @@
 -- What the search keeps true of the marks while it lowers them.
-use Rattle.std.specs.Prelude.{◌≡◌, ℕ, ◌+◌, ◌<◌, ◌≤◌, Bool, true, false, cond, ◌⊎◌, List, [], ◌∷◌, ◌==◌, slice_index}
+use Rattle.std.specs.Prelude.{◌≡◌, ℕ, ◌+◌, ◌<◌, ◌≤◌, Bool, true, false, cond, ◌⊎◌, List, [], ◌∷◌, ◌==◌, length, slice_index, Option, Some, None}
 use Rattle.widths.specs.Width.{widths_of, base_of}
 use Rattle.distances.specs.declared.graph.Graph.{Graph}
-use Rattle.distances.specs.Graphs.{Pair, Link, accepting, mark_in}
+use Rattle.distances.specs.Graphs.{Pair, Leads, accepting, mark_in}
+
+-- A distance as a mark: one more, and 0 where there is none.
+abbrev pub marked : Option ℕ → ℕ
+marked None = 0
+marked (Some d) = d + 1
 
 -- t is r, or one more than the mark of a pair of S; and it is no worse than r or what a pair of S allows. M is the marks, and 0 is worst.
 pub record Better (M : ℕ → ℕ → ℕ) (S : ℕ → ℕ → Type 0) (r t : ℕ) : Type 0 where
@@ -18,7 +23,7 @@ pub record Grounded (D : ℕ → ℕ → Type 0) (L : ℕ → ℕ → ℕ → �
   pub more : (p i : ℕ) → D p i → 2 ≤ M p i → (q : ℕ) × (j : ℕ) × L p i q j × (1 ≤ M q j) × (M q j < M p i)
 
 abbrev pub Ground : Graph → List ℕ → Type 0
-Ground g area = Grounded (Pair g) (Link g) (accepting g) (mark_in g area)
+Ground g area = Grounded (Pair g) (Leads g) (accepting g) (mark_in g area)
 
 -- Nothing lowers the mark of (p, i): it has 1 where it accepts, and no link leads to a mark that allows less.
 pub record Still (L : ℕ → ℕ → ℕ → ℕ → Type 0) (A : ℕ → ℕ → Bool) (M : ℕ → ℕ → ℕ) (p i : ℕ) : Type 0 where
@@ -26,7 +31,7 @@ pub record Still (L : ℕ → ℕ → ℕ → ℕ → Type 0) (A : ℕ → ℕ �
   pub linked : (q j : ℕ) → L p i q j → 1 ≤ M q j → M q j < 4097 → (1 ≤ M p i) × (M p i ≤ M q j + 1)
 
 abbrev pub Settled : Graph → List ℕ → ℕ → ℕ → Type 0
-Settled g area p i = Still (Link g) (accepting g) (mark_in g area) p i
+Settled g area p i = Still (Leads g) (accepting g) (mark_in g area) p i
 
 -- What is left to gain: no mark costs more than any mark.
 abbrev pub cost : ℕ → ℕ
@@ -46,3 +51,14 @@ pub record Swept (g : Graph) (old new : List ℕ) (V : ℕ → ℕ → Type 0) (
   pub behind : Behind g old new
   pub falls : moved ≡ true → rest new < rest old
   pub still : moved ≡ false → (new ≡ old) × ((p i : ℕ) → V p i → Pair g p i → Settled g new p i)
+
+-- A sweep of grounded marks: what the area old became.
+abbrev pub Sweeps : Graph → List ℕ → List ℕ → (ℕ → ℕ → Type 0) → Bool → Type 0
+Sweeps g old new V moved = Ground g old → Swept g old new V moved
+
+-- The 4,096 numbers old became new: the marks are grounded, and nothing lowers one.
+pub record AllSettled (g : Graph) (old new : List ℕ) : Type 0 where
+  pub long : length new ≡ 4096
+  pub ground : Ground g new
+  pub behind : Behind g old new
+  pub settled : (p i : ℕ) → Pair g p i → Settled g new p i

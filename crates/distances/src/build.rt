@@ -15,7 +15,7 @@ fn targets_of(table: &Table, p: usize) -> Set64
 {
     let mut targets = Set64::empty();
     for k in 0..table.places() {
-        if table.links(p, k + 1) != 0 {
+        if !table.links(p, k + 1).is_empty() {
             targets = targets.union(Set64::only(k as u8));
         }
     }

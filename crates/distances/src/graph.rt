@@ -18,5 +18,5 @@ pub(crate) struct Graph {
     ghost exact: { (p k : ℕ) → p ≤ table.places → member (slice_index_or targets p no_set) k ≡ (nat_lt k table.places && not (links_of table p (k + 1) == 0)) },
 }
 
-// No mark passes this: there are at most 4,096 pairs, so no shortest path has more than 4,095 links.
-pub(crate) const MOST: u16 = 4097;
+// No distance passes this: there are at most 4,096 pairs, so no shortest path has more than 4,095 links.
+pub(crate) const MOST: u16 = 4096;

@@ -1,7 +1,7 @@
 //! Distances in a pattern's automaton: how many links each pair (place, count) is away from a pair that accepts.
 //!
 //! `measure` fills a lent area of 16-bit numbers: the mark of a pair is its distance plus one, and 0 where no path leads to a pair that accepts.
-//! The marks stand place after place, each place's by count, in the first 4,096 numbers (`mark_at` of `specs/Marks.antt`); `mark_of` reads one,
+//! The marks stand place after place, each place's by count, in the first 4,096 numbers (`mark_at` of `specs/Marks.antt`); `Marks` reads one,
 //! and `wipe` makes those numbers zero again. `measure` lowers the marks in place, in sweeps over all pairs, until none moves.
 //! A `Graph` is a copy of the table with the layout of its marks and, for each place, the places that its links lead to; there is no second area.
 //!
@@ -16,5 +16,5 @@ mod relax;
 mod search;
 mod sweep;
 
-pub use marks::{mark_of, wipe};
+pub use marks::{Marks, wipe};
 pub use search::measure;

@@ -1,9 +1,9 @@
 ghost use Rattle.std.specs.Prelude.{◌≡◌, ℕ, ◌+◌, ◌-◌, ◌<◌, ◌≤◌, true, length, if◌then◌else◌};
-ghost use Rattle.distances.specs.Graphs.{Pair, Link, accepting, mark_in, number_in};
-ghost use Rattle.distances.specs.Search.{Better, Ground, Swept};
+ghost use Rattle.distances.specs.Graphs.{Pair, Leads, accepting, mark_in, number_in};
+ghost use Rattle.distances.specs.Search.{Better, Sweeps, marked};
 
 use crate::graph::{Graph, MOST};
-use tables::{CROSS, NEXT, WITHIN};
+use tables::Link;
 
 impl Graph {
     // Where the mark of the pair (p, i) stands.
@@ -12,56 +12,73 @@ impl Graph {
         ensures value { result ≡ number_in self.now p i }
         ensures bound { result < 4096 }
     {
-        match self.layout.base(p) {
-            Some(base) => base + (i as usize - 1),
-            None => unreachable(),
-        }
+        let Some(base) = self.layout.base(p) else {
+            unreachable!();
+        };
+        base + usize::from(i - 1)
     }
 
-    // One more than the mark of (q, j), where the way there is free and that is better than `r`; else `r`.
-    fn through(&self, area: &[u16], free: bool, q: usize, j: u16, r: u16) -> u16
-        requires long { 4096 ≤ length area.now }
+    // The distance of the pair (q, j) as the area has it; `None` where no way is known from there.
+    fn distance(&self, area: &[u16; 4096], q: usize, j: u16) -> Option<u16>
+        requires { Pair self.now q j }
+        ensures { marked result ≡ mark_in self.now area.now q j }
+    {
+        area[self.number(q, j)].checked_sub(1)
+    }
+
+    // One more than the distance of (q, j), where the way there is free and that is less than `best`; else `best`.
+    fn through(
+        &self,
+        area: &[u16; 4096],
+        free: bool,
+        q: usize,
+        j: u16,
+        best: Option<u16>,
+    ) -> Option<u16>
         requires place { q ≤ self.now.table.places }
         requires count { 1 ≤ j }
-        ensures { Better (mark_in self.now area.now) (λ a b. (a ≡ q) × (b ≡ j) × (free ≡ true) × Pair self.now q j) r result }
+        ensures { Better (mark_in self.now area.now) (λ a b. (a ≡ q) × (b ≡ j) × (free ≡ true) × Pair self.now q j) (marked best) (marked result) }
     {
-        if free && j <= self.layout.width(q) {
-            let m = area[self.number(q, j)];
-            if m != 0 && m < MOST && (r == 0 || m + 1 < r) {
-                return m + 1;
-            }
+        if !free || j > self.layout.width(q) {
+            return best;
         }
-        r
+        match self.distance(area, q, j) {
+            Some(d) if d < MOST && best.is_none_or(|b| d + 1 < b) => Some(d + 1),
+            _ => best,
+        }
     }
 
-    // The better of `r` and what the links from (p, i) to the place q allow.
-    fn via(&self, area: &[u16], p: usize, i: u16, q: usize, r: u16) -> u16
-        requires long { 4096 ≤ length area.now }
+    // The less of `best` and what the links from (p, i) to the place q allow.
+    fn via(
+        &self,
+        area: &[u16; 4096],
+        p: usize,
+        i: u16,
+        q: usize,
+        best: Option<u16>,
+    ) -> Option<u16>
         requires pair { Pair self.now p i }
         requires place { (1 ≤ q) × (q ≤ self.now.table.places) }
-        ensures { Better (mark_in self.now area.now) (λ a b. (a ≡ q) × Link self.now p i a b) r result }
+        ensures { Better (mark_in self.now area.now) (λ a b. (a ≡ q) × Leads self.now p i a b) (marked best) (marked result) }
     {
-        let mask = self.table.links(p, q);
-        let one = self.through(area, mask & WITHIN != 0, q, i, r);
-        let on = mask & NEXT != 0 && i < self.layout.width(p);
+        let links = self.table.links(p, q);
+        let one = self.through(area, links.has(Link::Within), q, i, best);
+        let on = links.has(Link::Next) && i < self.layout.width(p);
         let two = self.through(area, on, q, i + 1, one);
-        let out = mask & CROSS != 0 && i >= self.table.low_at(p);
+        let out = links.has(Link::Cross) && i >= self.table.low_at(p);
         self.through(area, out, q, 1, two)
     }
 
-    // One more than the least mark that a link leads to from (p, i), or 0 where there is none.
-    fn best(&self, area: &[u16], p: usize, i: u16) -> u16
-        requires long { 4096 ≤ length area.now }
-        requires pair { Pair self.now p i }
-        ensures { Better (mark_in self.now area.now) (Link self.now p i) 0 result }
+    // One more than the least distance that a link leads to from (p, i), if there is one.
+    fn best(&self, area: &[u16; 4096], p: usize, i: u16) -> Option<u16>
+        requires { Pair self.now p i }
+        ensures { Better (mark_in self.now area.now) (Leads self.now p i) 0 (marked result) }
     {
-        let mut r = 0;
-        let mut left = self.targets[p];
-        while let Some(k) = left.least() {
-            left = left.remove(k);
-            r = self.via(area, p, i, k as usize + 1, r);
+        let mut best = None;
+        for k in self.targets[p] {
+            best = self.via(area, p, i, usize::from(k) + 1, best);
         }
-        r
+        best
     }
 
     // Whether the pair (p, i) accepts.
@@ -71,37 +88,34 @@ impl Graph {
         (p == 0 && self.table.is_nullable()) || (self.table.is_last(p) && i >= self.table.low_at(p))
     }
 
-    // The mark of (p, i) by the marks that its links lead to: 1 where it accepts.
-    fn due(&self, area: &[u16], p: usize, i: u16) -> u16
-        requires long { 4096 ≤ length area.now }
-        requires pair { Pair self.now p i }
-        ensures { Better (mark_in self.now area.now) (Link self.now p i) (if accepting self.now p i then 1 else 0) result }
+    // The distance of (p, i) by those that its links lead to: 0 where it accepts.
+    fn due(&self, area: &[u16; 4096], p: usize, i: u16) -> Option<u16>
+        requires { Pair self.now p i }
+        ensures { Better (mark_in self.now area.now) (Leads self.now p i) (if accepting self.now p i then 1 else 0) (marked result) }
     {
         if self.accepts(p, i) {
-            1
+            Some(0)
         } else {
             self.best(area, p, i)
         }
     }
 
     // Lowers the mark of (p, i) where it accepts or a link allows it, and says whether it did.
-    pub(crate) fn relax(&self, area: &mut [u16], p: usize, i: u16) -> bool
-        requires long { 4096 ≤ length area.old }
+    pub(crate) fn relax(&self, area: &mut [u16; 4096], p: usize, i: u16) -> bool
         requires place { p ≤ self.now.table.places }
         requires count { 1 ≤ i }
-        requires ground { Ground self.now area.old }
-        ensures { Swept self.now area.old area.new (λ a b. (a ≡ p) × (b ≡ i)) result }
+        ensures { Sweeps self.now area.old area.new (λ a b. (a ≡ p) × (b ≡ i)) result }
     {
         if i > self.layout.width(p) {
             return false;
         }
-        let r = self.due(area, p, i);
-        let k = self.number(p, i);
-        let old = area[k];
-        if r != 0 && (old == 0 || r < old) {
-            area[k] = r;
-            return true;
+        let Some(due) = self.due(area, p, i) else {
+            return false;
+        };
+        let moves = self.distance(area, p, i).is_none_or(|d| due < d);
+        if moves {
+            area[self.number(p, i)] = due + 1;
         }
-        false
+        moves
     }
 }

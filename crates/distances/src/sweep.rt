@@ -1,77 +1,60 @@
 ghost use Rattle.std.specs.Prelude.{◌≡◌, ℕ, ◌+◌, ◌<◌, ◌≤◌, length};
 ghost use Rattle.distances.specs.Graphs.{Pair, width_in};
-ghost use Rattle.distances.specs.Search.{Behind, Ground, Settled, Swept};
+ghost use Rattle.distances.specs.Search.{AllSettled, Ground, Sweeps};
 
 use crate::graph::Graph;
-use tables::NEXT;
+use tables::Link;
 
 impl Graph {
     // The first place of the block that ends with the place `last`: the first that a next link leads to from there, else `last`.
     fn block(&self, last: usize) -> usize
         ensures { result ≤ last }
     {
-        for q in 0..last {
-            if self.table.links(last, q) & NEXT != 0 {
-                return q;
-            }
-        }
-        last
+        (0..last)
+            .find(|q| self.table.links(last, *q).has(Link::Next))
+            .unwrap_or(last)
     }
 
     // The greatest width of the places from `lo` up to `end`.
     fn tallest(&self, lo: usize, end: usize) -> u16
         ensures { (p : ℕ) → lo ≤ p → p < end → width_in self.now p ≤ result }
     {
-        let mut most = 0;
-        for p in lo..end {
-            let width = self.layout.width(p);
-            if most < width {
-                most = width;
-            }
-        }
-        most
+        (lo..end)
+            .map(|p| self.layout.width(p))
+            .max()
+            .unwrap_or(0)
     }
 
     // Relaxes the count i at the places from `lo` up to `end`, the last place first.
-    fn sweep_count(&self, area: &mut [u16], lo: usize, end: usize, i: u16) -> bool
-        requires long { 4096 ≤ length area.old }
+    fn sweep_count(&self, area: &mut [u16; 4096], lo: usize, end: usize, i: u16) -> bool
         requires order { lo ≤ end }
         requires place { end ≤ self.now.table.places + 1 }
         requires count { 1 ≤ i }
-        requires ground { Ground self.now area.old }
-        ensures { Swept self.now area.old area.new (λ a b. (lo ≤ a) × (a < end) × (b ≡ i)) result }
+        ensures { Sweeps self.now area.old area.new (λ a b. (lo ≤ a) × (a < end) × (b ≡ i)) result }
     {
         let mut moved = false;
-        let mut p = end;
-        while p > lo {
-            p -= 1;
+        for p in (lo..end).rev() {
             moved |= self.relax(area, p, i);
         }
         moved
     }
 
     // Relaxes the places from `lo` up to `end`, the highest count first.
-    fn sweep_block(&self, area: &mut [u16], lo: usize, end: usize) -> bool
-        requires long { 4096 ≤ length area.old }
+    fn sweep_block(&self, area: &mut [u16; 4096], lo: usize, end: usize) -> bool
         requires order { lo ≤ end }
         requires place { end ≤ self.now.table.places + 1 }
-        requires ground { Ground self.now area.old }
-        ensures { Swept self.now area.old area.new (λ a b. (lo ≤ a) × (a < end)) result }
+        ensures { Sweeps self.now area.old area.new (λ a b. (lo ≤ a) × (a < end)) result }
     {
         let mut moved = false;
-        let mut i = self.tallest(lo, end);
-        while i > 0 {
+        for i in (1..=self.tallest(lo, end)).rev() {
             moved |= self.sweep_count(area, lo, end, i);
-            i -= 1;
         }
         moved
     }
 
     // Relaxes every pair once, the last block first.
-    fn sweep(&self, area: &mut [u16]) -> bool
-        requires long { 4096 ≤ length area.old }
-        requires ground { Ground self.now area.old }
-        ensures { Swept self.now area.old area.new (Pair self.now) result }
+    fn sweep(&self, area: &mut [u16; 4096]) -> bool
+        ensures { Sweeps self.now area.old area.new (Pair self.now) result }
     {
         let mut moved = false;
         let mut end = self.table.places() + 1;
@@ -84,12 +67,9 @@ impl Graph {
     }
 
     // Relaxes until nothing moves.
-    pub(crate) fn settle(&self, area: &mut [u16])
-        requires long { 4096 ≤ length area.old }
-        requires ground { Ground self.now area.old }
-        ensures ground { Ground self.now area.new }
-        ensures behind { Behind self.now area.old area.new }
-        ensures settled { (p i : ℕ) → Pair self.now p i → Settled self.now area.new p i }
+    pub(crate) fn settle(&self, area: &mut [u16; 4096])
+        requires { Ground self.now area.old }
+        ensures { AllSettled self.now area.old area.new }
     {
         while self.sweep(area) {}
     }

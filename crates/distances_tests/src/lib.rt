@@ -4,14 +4,14 @@
 
 #[cfg(test)]
 mod tests {
-    use distances::{mark_of, measure, wipe};
-    use glushkov::table_of;
     use alphabets::Alphabet;
+    use distances::{Marks, measure, wipe};
+    use glushkov::table_of;
+    use refusals::Refusal;
     use std::alloc::Global;
     use std::test::Fail;
     use syntax::parse;
     use tables::Table;
-    use widths::Layout;
 
     // The table of a letters pattern.
     fn table(heap: Global, text: &[u8]) -> Result<Table, Fail> {
@@ -29,7 +29,7 @@ mod tests {
     fn counts(rt: HostRuntime) -> Result<(), Fail> {
         let table = table(rt.alloc(), b"a{3}")?;
         let mut area = [7; 4096];
-        assert!(rt; measure(&table, &mut area));
+        measure(&table, &mut area)?;
         assert_eq!(rt; area[0], 4);
         assert_eq!(rt; area[1], 3);
         assert_eq!(rt; area[2], 2);
@@ -43,15 +43,15 @@ mod tests {
     fn choices(rt: HostRuntime) -> Result<(), Fail> {
         let table = table(rt.alloc(), b"ab|c")?;
         let mut area = [7; 4096];
-        assert!(rt; measure(&table, &mut area));
-        let layout = Layout::of(&table.widths());
-        assert_eq!(rt; mark_of(&layout, &area, 0, 1), 2);
-        assert_eq!(rt; mark_of(&layout, &area, 1, 1), 2);
-        assert_eq!(rt; mark_of(&layout, &area, 2, 1), 1);
-        assert_eq!(rt; mark_of(&layout, &area, 3, 1), 1);
-        assert_eq!(rt; mark_of(&layout, &area, 3, 0), 0);
-        assert_eq!(rt; mark_of(&layout, &area, 3, 2), 0);
-        assert_eq!(rt; mark_of(&layout, &area, 65, 1), 0);
+        measure(&table, &mut area)?;
+        let marks = Marks::of(&table.widths(), &area);
+        assert_eq!(rt; marks.at(0, 1), 2);
+        assert_eq!(rt; marks.at(1, 1), 2);
+        assert_eq!(rt; marks.at(2, 1), 1);
+        assert_eq!(rt; marks.at(3, 1), 1);
+        assert_eq!(rt; marks.at(3, 0), 0);
+        assert_eq!(rt; marks.at(3, 2), 0);
+        assert_eq!(rt; marks.at(65, 1), 0);
         Ok(())
     }
 
@@ -60,7 +60,7 @@ mod tests {
     fn next_and_cross(rt: HostRuntime) -> Result<(), Fail> {
         let table = table(rt.alloc(), b"(a{2})*")?;
         let mut area = [7; 4096];
-        assert!(rt; measure(&table, &mut area));
+        measure(&table, &mut area)?;
         assert_eq!(rt; area[0], 1);
         assert_eq!(rt; area[1], 2);
         assert_eq!(rt; area[2], 1);
@@ -73,7 +73,7 @@ mod tests {
     fn longest(rt: HostRuntime) -> Result<(), Fail> {
         let table = table(rt.alloc(), b"(aaaa){1000}a{95}")?;
         let mut area = [7; 5000];
-        assert!(rt; measure(&table, &mut area));
+        measure(&table, &mut area)?;
         assert_eq!(rt; area[0], 4096);
         assert_eq!(rt; area[4095], 1);
         assert_eq!(rt; area[4096], 7);
@@ -85,7 +85,7 @@ mod tests {
     fn short_areas(rt: HostRuntime) -> Result<(), Fail> {
         let table = table(rt.alloc(), b"a{3}")?;
         let mut area = [7; 4095];
-        assert!(rt; !measure(&table, &mut area));
+        assert_eq!(rt; measure(&table, &mut area), Err(Refusal::Work));
         assert_eq!(rt; area[0], 7);
         assert_eq!(rt; area[4094], 7);
         wipe(&mut area);

@@ -6,13 +6,7 @@ use symbols::Letters;
 
 // How many numbers of an area are v.
 fn count(area: &[u16], v: u16) -> usize {
-    let mut n = 0;
-    for x in area {
-        if *x == v && n < area.len() {
-            n += 1;
-        }
-    }
-    n
+    area.iter().filter(|x| **x == v).count()
 }
 
 // 4,095 numbers are too few, whatever the row; they stay.

@@ -16,12 +16,9 @@ fn laid<B: Bank>(
     most: usize,
 ) -> Result<usize, Fail> {
     for n in 0..most {
-        match session.lay(b'a') {
-            Ok(()) => {}
-            Err(e) => {
-                assert_eq!(rt; e, Refusal::Full);
-                return Ok(n);
-            }
+        if let Err(refusal) = session.lay(b'a') {
+            assert_eq!(rt; refusal, Refusal::Full);
+            return Ok(n);
         }
     }
     Ok(most)

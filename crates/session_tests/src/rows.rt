@@ -11,220 +11,59 @@ use std::test::Fail;
 use symbol_rows::read_row;
 use symbols::{Kind, Letters, Tiles};
 
-/// What a row must come to.
-#[derive(Clone, Copy)]
-enum Said {
-    /// It lacks so many symbols, none where it fits.
-    Needs(u16),
-    Stuck,
-}
-
-/// A pattern, a row, and what the row must come to.
-#[derive(Clone, Copy)]
-struct Case {
-    pattern: &'static [u8],
-    row: &'static [u8],
-    said: Said,
-}
+// A pattern, a row, and how many symbols the row lacks: 0 where it fits, `None` where it is stuck.
+type Case = (&'static [u8], &'static [u8], Option<u16>);
 
 const LETTERS: [Case; 30] = [
     // One count stands in `.{3}` after `aa`, two after `aaxx`: the newest alone would need 2.
-    Case {
-        pattern: b".*a.{3}b",
-        row: b"",
-        said: Said::Needs(5),
-    },
-    Case {
-        pattern: b".*a.{3}b",
-        row: b"aa",
-        said: Said::Needs(3),
-    },
-    Case {
-        pattern: b".*a.{3}b",
-        row: b"aaxx",
-        said: Said::Needs(1),
-    },
-    Case {
-        pattern: b".*a.{3}b",
-        row: b"aaxxb",
-        said: Said::Needs(0),
-    },
-    Case {
-        pattern: b".*a.{3}b",
-        row: b"aaxxx",
-        said: Said::Needs(1),
-    },
+    (b".*a.{3}b", b"", Some(5)),
+    (b".*a.{3}b", b"aa", Some(3)),
+    (b".*a.{3}b", b"aaxx", Some(1)),
+    (b".*a.{3}b", b"aaxxb", Some(0)),
+    (b".*a.{3}b", b"aaxxx", Some(1)),
     // Five passes of one or two letters.
-    Case {
-        pattern: b"(a|aa){5}",
-        row: b"aaaa",
-        said: Said::Needs(1),
-    },
-    Case {
-        pattern: b"(a|aa){5}",
-        row: b"aaaaa",
-        said: Said::Needs(0),
-    },
-    Case {
-        pattern: b"(a|aa){5}",
-        row: b"aaaaaaaaaa",
-        said: Said::Needs(0),
-    },
-    Case {
-        pattern: b"(a|aa){5}",
-        row: b"aaaaaaaaaaa",
-        said: Said::Stuck,
-    },
+    (b"(a|aa){5}", b"aaaa", Some(1)),
+    (b"(a|aa){5}", b"aaaaa", Some(0)),
+    (b"(a|aa){5}", b"aaaaaaaaaa", Some(0)),
+    (b"(a|aa){5}", b"aaaaaaaaaaa", None),
     // A nullable body: passes may be empty.
-    Case {
-        pattern: b"(a?){2,3}",
-        row: b"",
-        said: Said::Needs(0),
-    },
-    Case {
-        pattern: b"(a?){2,3}",
-        row: b"a",
-        said: Said::Needs(0),
-    },
-    Case {
-        pattern: b"(a?){2,3}",
-        row: b"aaa",
-        said: Said::Needs(0),
-    },
-    Case {
-        pattern: b"(a?){2,3}",
-        row: b"aaaa",
-        said: Said::Stuck,
-    },
+    (b"(a?){2,3}", b"", Some(0)),
+    (b"(a?){2,3}", b"a", Some(0)),
+    (b"(a?){2,3}", b"aaa", Some(0)),
+    (b"(a?){2,3}", b"aaaa", None),
     // A next and a cross link between the same places.
-    Case {
-        pattern: b"(a{2})*",
-        row: b"aaa",
-        said: Said::Needs(1),
-    },
-    Case {
-        pattern: b"(a{2})*",
-        row: b"aaaa",
-        said: Said::Needs(0),
-    },
-    Case {
-        pattern: b"(a{2}b?)*",
-        row: b"aaab",
-        said: Said::Stuck,
-    },
+    (b"(a{2})*", b"aaa", Some(1)),
+    (b"(a{2})*", b"aaaa", Some(0)),
+    (b"(a{2}b?)*", b"aaab", None),
     // The low of a repeat.
-    Case {
-        pattern: b"a{2,4}b",
-        row: b"a",
-        said: Said::Needs(2),
-    },
-    Case {
-        pattern: b"a{2,4}b",
-        row: b"aa",
-        said: Said::Needs(1),
-    },
-    Case {
-        pattern: b"a{2,4}b",
-        row: b"aaaa",
-        said: Said::Needs(1),
-    },
-    Case {
-        pattern: b"a{2,4}b",
-        row: b"aaaaa",
-        said: Said::Stuck,
-    },
-    Case {
-        pattern: b"a{2,4}b",
-        row: b"ab",
-        said: Said::Stuck,
-    },
+    (b"a{2,4}b", b"a", Some(2)),
+    (b"a{2,4}b", b"aa", Some(1)),
+    (b"a{2,4}b", b"aaaa", Some(1)),
+    (b"a{2,4}b", b"aaaaa", None),
+    (b"a{2,4}b", b"ab", None),
     // Links inside a pass and from pass to pass.
-    Case {
-        pattern: b"(ab){3}",
-        row: b"aba",
-        said: Said::Needs(3),
-    },
-    Case {
-        pattern: b"(ab){3}",
-        row: b"abb",
-        said: Said::Stuck,
-    },
-    Case {
-        pattern: b"(a*b){2}c",
-        row: b"aab",
-        said: Said::Needs(2),
-    },
-    Case {
-        pattern: b"(a*b){2}c",
-        row: b"aabbc",
-        said: Said::Needs(0),
-    },
+    (b"(ab){3}", b"aba", Some(3)),
+    (b"(ab){3}", b"abb", None),
+    (b"(a*b){2}c", b"aab", Some(2)),
+    (b"(a*b){2}c", b"aabbc", Some(0)),
     // Classes, and the empty pattern.
-    Case {
-        pattern: b"[^b-z]+[c-e]?",
-        row: b"aad",
-        said: Said::Needs(0),
-    },
-    Case {
-        pattern: b"[^b-z]+[c-e]?",
-        row: b"d",
-        said: Said::Stuck,
-    },
-    Case {
-        pattern: b"",
-        row: b"",
-        said: Said::Needs(0),
-    },
-    Case {
-        pattern: b"",
-        row: b"a",
-        said: Said::Stuck,
-    },
+    (b"[^b-z]+[c-e]?", b"aad", Some(0)),
+    (b"[^b-z]+[c-e]?", b"d", None),
+    (b"", b"", Some(0)),
+    (b"", b"a", None),
     // The longest way that a pattern allows.
-    Case {
-        pattern: b"(aaaa){1000}a{95}",
-        row: b"aaa",
-        said: Said::Needs(4092),
-    },
+    (b"(aaaa){1000}a{95}", b"aaa", Some(4092)),
 ];
 
 const TILES: [Case; 7] = [
     // Two reds, then B1 or a green tile.
-    Case {
-        pattern: b"R.{2}[B1G.]",
-        row: b"R4",
-        said: Said::Needs(2),
-    },
-    Case {
-        pattern: b"R.{2}[B1G.]",
-        row: b"R4R9G0",
-        said: Said::Needs(0),
-    },
-    Case {
-        pattern: b"R.{2}[B1G.]",
-        row: b"R4R9B1",
-        said: Said::Needs(0),
-    },
-    Case {
-        pattern: b"R.{2}[B1G.]",
-        row: b"R4R9B2",
-        said: Said::Stuck,
-    },
-    Case {
-        pattern: b"R.{2}[B1G.]",
-        row: b"R4G0",
-        said: Said::Stuck,
-    },
-    Case {
-        pattern: b"(.7|Y.){3}",
-        row: b"R7Y0",
-        said: Said::Needs(1),
-    },
-    Case {
-        pattern: b"(.7|Y.){3}",
-        row: b"R7Y0G7",
-        said: Said::Needs(0),
-    },
+    (b"R.{2}[B1G.]", b"R4", Some(2)),
+    (b"R.{2}[B1G.]", b"R4R9G0", Some(0)),
+    (b"R.{2}[B1G.]", b"R4R9B1", Some(0)),
+    (b"R.{2}[B1G.]", b"R4R9B2", None),
+    (b"R.{2}[B1G.]", b"R4G0", None),
+    (b"(.7|Y.){3}", b"R7Y0", Some(1)),
+    (b"(.7|Y.){3}", b"R7Y0G7", Some(0)),
 ];
 
 /// A session on a pattern.
@@ -262,66 +101,47 @@ fn comes_to<K: Kind, B: Bank>(
     case: Case,
     followed: bool,
 ) -> Result<(), Fail> {
-    let mut session = session::<K, B>(heap, case.pattern)?;
-    let row = read_row::<K>(heap, case.row)?;
+    let (pattern, row, need) = case;
+    let mut session = session::<K, B>(heap, pattern)?;
+    let row = read_row::<K>(heap, row)?;
     session.lay_row(row.as_slice())?;
     let mut area = [9; 4096];
-    match case.said {
-        Said::Needs(n) => {
-            assert_eq!(rt; session.fits(), n == 0);
-            assert_eq!(rt; session.need(&mut area)?, n);
-            if followed {
-                follow(rt, &mut session, &mut area, n)
-            } else {
-                Ok(())
-            }
-        }
-        Said::Stuck => {
-            assert!(rt; !session.fits());
-            assert_eq!(rt; session.need(&mut area), Err(Refusal::Stuck));
+    assert_eq!(rt; session.fits(), need == Some(0));
+    assert_eq!(rt; session.need(&mut area), need.ok_or(Refusal::Stuck));
+    match need {
+        Some(n) if followed => follow(rt, &mut session, &mut area, n),
+        Some(_) => Ok(()),
+        None => {
             assert!(rt; matches!(session.hint(&mut area), Err(Refusal::Stuck)));
             Ok(())
         }
     }
 }
 
-// The longest way is not followed to its end over every bank.
-fn is_short(case: Case) -> bool {
-    match case.said {
-        Said::Needs(n) => n < 100,
-        Said::Stuck => true,
-    }
-}
-
-// Every case over one bank.
-fn letters_over<B: Bank>(rt: &impl Abort, heap: Global) -> Result<(), Fail> {
-    for case in LETTERS {
-        comes_to::<Letters, B>(rt, heap, case, is_short(case))?;
+// Every case over one bank. The longest way is not followed to its end.
+fn over<K: Kind, B: Bank>(rt: &impl Abort, heap: Global, cases: &[Case]) -> Result<(), Fail> {
+    for case in cases {
+        comes_to::<K, B>(rt, heap, *case, case.2.is_none_or(|n| n < 100))?;
     }
     Ok(())
 }
 
-fn tiles_over<B: Bank>(rt: &impl Abort, heap: Global) -> Result<(), Fail> {
-    for case in TILES {
-        comes_to::<Tiles, B>(rt, heap, case, true)?;
-    }
-    Ok(())
+// Every case over every bank.
+fn over_banks<K: Kind>(rt: &impl Abort, heap: Global, cases: &[Case]) -> Result<(), Fail> {
+    over::<K, BitBank>(rt, heap, cases)?;
+    over::<K, ListBank>(rt, heap, cases)?;
+    over::<K, MaskLayer<BitBank>>(rt, heap, cases)?;
+    over::<K, MaskLayer<ListBank>>(rt, heap, cases)
 }
 
 #[test]
 fn letters(rt: HostRuntime) -> Result<(), Fail> {
-    letters_over::<BitBank>(&rt, rt.alloc())?;
-    letters_over::<ListBank>(&rt, rt.alloc())?;
-    letters_over::<MaskLayer<BitBank>>(&rt, rt.alloc())?;
-    letters_over::<MaskLayer<ListBank>>(&rt, rt.alloc())
+    over_banks::<Letters>(&rt, rt.alloc(), &LETTERS)
 }
 
 #[test]
 fn tiles(rt: HostRuntime) -> Result<(), Fail> {
-    tiles_over::<BitBank>(&rt, rt.alloc())?;
-    tiles_over::<ListBank>(&rt, rt.alloc())?;
-    tiles_over::<MaskLayer<BitBank>>(&rt, rt.alloc())?;
-    tiles_over::<MaskLayer<ListBank>>(&rt, rt.alloc())
+    over_banks::<Tiles>(&rt, rt.alloc(), &TILES)
 }
 
 // 4,092 hints in turn bring the row to its only end.

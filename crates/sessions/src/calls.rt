@@ -14,8 +14,7 @@ impl<K: Kind, B: Bank> Session<K, B> {
     pub fn clear(&mut self)
         ensures { Did K.Kind B.Bank self.old Cleared self.new }
     {
-        let Session { plan, bank } = self;
-        restart(plan, bank);
+        restart(&self.plan, &mut self.bank);
     }
 
     /// Puts a symbol at the end of the row and makes the step. Refused with `Symbol` for a value that is no symbol, and then with
@@ -24,6 +23,7 @@ impl<K: Kind, B: Bank> Session<K, B> {
         ensures { Did K.Kind B.Bank self.old (Laid symbol result) self.new }
     {
         let code = K::code_of(symbol)?;
+        // By parts: a borrow of the plan's table through `self` would keep the bank lent too.
         let Session { plan, bank } = self;
         step(&plan.table, bank, code)
     }

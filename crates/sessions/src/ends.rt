@@ -28,12 +28,11 @@ fn session_on<K: Kind, B: Bank>(plan: Plan<K>, bank: B) -> Session<K, B>
 
 /// Opens a session on a plan: the row is empty. The bank is started; what it held does not matter.
 /// For every text that the plan is of, whatever list of calls follows, the answers are right for the row that the calls laid.
-pub fn open<K: Kind, B: Bank>(plan: Plan<K>, bank: B) -> Session<K, B>
+pub fn open<K: Kind, B: Bank>(plan: Plan<K>, mut bank: B) -> Session<K, B>
     ensures same { result.plan ≡ plan }
     ensures started { Started B.means (width_of plan.table.widths) result.bank }
     ensures right { (text : List ℕ) → PlanOf K.Kind text plan → EveryRun K.Kind B.Bank text result }
 {
-    let mut bank = bank;
     restart(&plan, &mut bank);
     session_on(plan, bank)
 }
@@ -43,7 +42,6 @@ impl<K: Kind, B: Bank> Session<K, B> {
     pub fn close(self) -> Plan<K>
         ensures { result ≡ self.plan }
     {
-        let Session { plan, bank: _ } = self;
-        plan
+        self.plan
     }
 }

@@ -1,5 +1,4 @@
 -- One file for each argument.
-pub mod Masks
 pub mod Any
 pub mod Gathers
 pub mod Follows

@@ -38,13 +38,6 @@ fn finish<B: Bank>(bank: &mut B, gathered: Result<(), Refusal>) -> Result<(), Re
 pub fn accepts<B: Bank>(table: &Table, bank: &B) -> bool
     ensures { Fresh B.means table.now bank.now → TellsAccepting table.now (B.means.front bank.now) result }
 {
-    if table.is_nullable() && bank.look(0, 1, 1) {
-        return true;
-    }
-    for p in 1..table.places() + 1 {
-        if table.is_last(p) && can_leave(table, bank, p) {
-            return true;
-        }
-    }
-    false
+    (table.is_nullable() && bank.look(0, 1, 1))
+        || (1..table.places() + 1).any(|p| table.is_last(p) && can_leave(table, bank, p))
 }

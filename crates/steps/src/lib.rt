@@ -14,4 +14,3 @@ mod fronts;
 mod moves;
 
 pub use fronts::{accepts, step};
-pub use moves::has_link;

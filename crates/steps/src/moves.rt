@@ -1,5 +1,4 @@
-ghost use Rattle.std.specs.Prelude.{◌≡◌, ℕ, ◌+◌, ◌^◌, not, ◌&&◌, ◌==◌, bit_and};
-ghost use Rattle.bits.specs.Bit.{bit};
+ghost use Rattle.std.specs.Prelude.{◌≡◌, ◌+◌, ◌&&◌};
 ghost use Rattle.widths.specs.Width.{width_of};
 ghost use Rattle.tables.specs.Tables.{low_of};
 ghost use Rattle.banks.specs.Pairs.{only, moved};
@@ -10,15 +9,7 @@ ghost use Rattle.steps.specs.Fronts.{Fresh};
 
 use banks::{Bank, Raise};
 use refusals::Refusal;
-use tables::{CROSS, NEXT, Table, WITHIN};
-
-/// Whether a mask of links has the link: `WITHIN`, `NEXT` or `CROSS`, each of which is one bit.
-pub fn has_link(mask: u8, link: u8) -> bool
-    ensures value { result ≡ not (bit_and mask link == 0) }
-    ensures bit { (k : ℕ) → link ≡ 2 ^ k → result ≡ bit mask k }
-{
-    mask & link != 0
-}
+use tables::{Link, Table};
 
 // Carries the counts of p to q, if they are linked.
 fn carry_if<B: Bank>(
@@ -65,10 +56,10 @@ fn cross_if<B: Bank>(
 fn follow<B: Bank>(table: &Table, bank: &mut B, p: usize, q: usize) -> Result<(), Refusal>
     ensures { Ready B.means bank.old → Gathered B.means (along table.now (B.means.front bank.old) p q) bank.old result bank.new }
 {
-    let mask = table.links(p, q);
-    carry_if(bank, has_link(mask, WITHIN), p, q, Raise::Nothing)?;
-    carry_if(bank, has_link(mask, NEXT), p, q, Raise::One)?;
-    cross_if(table, bank, has_link(mask, CROSS), p, q)
+    let links = table.links(p, q);
+    carry_if(bank, links.has(Link::Within), p, q, Raise::Nothing)?;
+    carry_if(bank, links.has(Link::Next), p, q, Raise::One)?;
+    cross_if(table, bank, links.has(Link::Cross), p, q)
 }
 
 // Follows the links from p to every place that takes the code.

@@ -1,8 +1,7 @@
 use Rattle.std.proofs.Common.{◌≡◌, false, ◌⊎◌, sym, ap, ◌∙◌, inl, inr, arith}
 use Rattle.std.proofs.lemmas.Bool.Decides.{not_from_Decides}
 use Rattle.std.proofs.lemmas.Bool.{cases_Bool}
-use Rattle.widths.specs.Width.{widths_of}
-use Rattle.distances.specs.Marks.{mark_at}
+use Rattle.distances.specs.Marks.{mark_of}
 use Rattle.completions.specs.Nearest.{improving}
 use Rattle.completions.proofs.LeastMarks.{least_kept, least_taken}
 use Rattle.completions.proofs.nearest.nearer.Goals as goal
@@ -13,19 +12,19 @@ returns-then-look g c = λ stands h.
     let f = g.B.Bank.means.front c.args.bank.now in
     let (i, a, b, x) = (c.look.ensures stands).0 c.if-look.true in
     let e : i ≡ c.args.i = omega arith in
-    least_taken (mark_at (widths_of c.args.layout.now) c.args.area.now) f c.args.p c.args.i c.args.old c.mark_of-mark.result
-    c.mark_of-mark.ensures (sym c.improves.ensures ∙ c.if-improves.true) (sym (ap (f c.args.p) e) ∙ x) h
+    least_taken (mark_of c.args.marks.now) f c.args.p c.args.i c.args.old c.at-mark.result
+    c.at-mark.ensures (sym c.improves.ensures ∙ c.if-improves.true) (sym (ap (f c.args.p) e) ∙ x) h
 
 pub returns : goal.returns
 returns g c = λ stands h.
     let f = g.B.Bank.means.front c.args.bank.now in
-    let M = mark_at (widths_of c.args.layout.now) c.args.area.now in
+    let M = mark_of c.args.marks.now in
     let why : (improving c.args.old (M c.args.p c.args.i) ≡ false) ⊎ (f c.args.p c.args.i ≡ false) = elim c.else-improves.branch [
       | else-improves-via-then-improves+else-look w ↦ elim (cases_Bool (f c.args.p c.args.i)) [
         | inl x ↦ absurd (not_from_Decides w.look.result (w.look.ensures stands) w.if-look.false (c.args.i, omega arith, omega arith, x))
         | inr x ↦ inr x
       ]
       | else-improves-via-else-improves w ↦
-          inl (sym (ap (improving c.args.old) c.mark_of-mark.ensures) ∙ sym c.improves.ensures ∙ w.if-improves.false)
+          inl (sym (ap (improving c.args.old) c.at-mark.ensures) ∙ sym c.improves.ensures ∙ w.if-improves.false)
     ] in
     least_kept M f c.args.p c.args.i c.args.old why h

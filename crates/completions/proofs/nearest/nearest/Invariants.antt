@@ -1,5 +1,4 @@
-use Rattle.widths.specs.Width.{widths_of}
-use Rattle.distances.specs.Marks.{mark_at}
+use Rattle.distances.specs.Marks.{mark_of}
 use Rattle.steps.specs.Fronts.{Fresh}
 use Rattle.completions.specs.Nearest.{before, LeastMark}
 use Rattle.completions.proofs.nearest.nearest.Given as goal
@@ -7,5 +6,4 @@ use Rattle.completions.proofs.nearest.nearest.Given as goal
 -- The least mark of the pairs at the places below p.
 abbrev pub invariant-loop-p : goal.invariant-loop-p
 invariant-loop-p g l =
-    Fresh g.B.Bank.means l.table l.bank
-    → LeastMark (mark_at (widths_of l.layout) l.area) (before (g.B.Bank.means.front l.bank) l.p 1) l.best
+    Fresh g.B.Bank.means l.table l.bank → LeastMark (mark_of l.marks) (before (g.B.Bank.means.front l.bank) l.p 1) l.best

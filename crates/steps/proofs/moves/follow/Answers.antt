@@ -1,4 +1,4 @@
-use Rattle.std.proofs.Common.{◌≡◌, refl, ap, ◌∙◌, arith}
+use Rattle.std.proofs.Common.{◌≡◌, refl, ap, ◌∙◌}
 use Rattle.std.proofs.lemmas.Result.{err_from_is_err_and}
 use Rattle.tables.specs.Masks.{within, next, cross}
 use Rattle.tables.specs.Tables.{links_of}
@@ -13,7 +13,7 @@ returns-in_err-carry_if g c = λ ready.
     let p = c.args.p in
     let q = c.args.q in
     let f = m.front c.args.bank.now in
-    let e₀ : c.has_link.result ≡ within (links_of t p q) = c.has_link.ensures.bit 0 (omega arith) ∙ ap within c.links-mask.ensures in
+    let e₀ : c.has.result ≡ within (links_of t p q) = c.has.ensures.link ∙ ap within c.links-links.ensures in
     let h₀ = gathered_at m (by_within p q) _ _ f f _ _ _ e₀ refl (c.in_err-carry_if.ensures ready) in
     let x = err_from_is_err_and c.from_residual.result c.from_residual.ensures.1 in
     rw (x.1, x.2) (within_refused m t f p q g.met.B.Bank.facts _ _ _ ready.stands h₀)
@@ -25,8 +25,8 @@ returns-in_err-carry_if-2 g c = λ ready.
     let p = c.args.p in
     let q = c.args.q in
     let f = m.front c.args.bank.now in
-    let e₀ : c.has_link.result ≡ within (links_of t p q) = c.has_link.ensures.bit 0 (omega arith) ∙ ap within c.links-mask.ensures in
-    let e₁ : c.has_link-2.result ≡ next (links_of t p q) = c.has_link-2.ensures.bit 1 (omega arith) ∙ ap next c.links-mask.ensures in
+    let e₀ : c.has.result ≡ within (links_of t p q) = c.has.ensures.link ∙ ap within c.links-links.ensures in
+    let e₁ : c.has-2.result ≡ next (links_of t p q) = c.has-2.ensures.link ∙ ap next c.links-links.ensures in
     let h₀ = gathered_at m (by_within p q) _ _ f f _ _ _ e₀ refl (c.in_ok-carry_if.ensures ready) in
     let r₁ = gathered_ready m _ _ _ h₀ in
     let h₁ = gathered_at m (by_next p q) _ _ _ f _ _ _ e₁ h₀.front_stays (c.in_err-carry_if-2.ensures r₁) in
@@ -40,9 +40,9 @@ returns g c = λ ready.
     let p = c.args.p in
     let q = c.args.q in
     let f = m.front c.args.bank.now in
-    let e₀ : c.has_link.result ≡ within (links_of t p q) = c.has_link.ensures.bit 0 (omega arith) ∙ ap within c.links-mask.ensures in
-    let e₁ : c.has_link-2.result ≡ next (links_of t p q) = c.has_link-2.ensures.bit 1 (omega arith) ∙ ap next c.links-mask.ensures in
-    let e₂ : c.has_link-3.result ≡ cross (links_of t p q) = c.has_link-3.ensures.bit 2 (omega arith) ∙ ap cross c.links-mask.ensures in
+    let e₀ : c.has.result ≡ within (links_of t p q) = c.has.ensures.link ∙ ap within c.links-links.ensures in
+    let e₁ : c.has-2.result ≡ next (links_of t p q) = c.has-2.ensures.link ∙ ap next c.links-links.ensures in
+    let e₂ : c.has-3.result ≡ cross (links_of t p q) = c.has-3.ensures.link ∙ ap cross c.links-links.ensures in
     let h₀ = gathered_at m (by_within p q) _ _ f f _ _ _ e₀ refl (c.in_ok-carry_if.ensures ready) in
     let r₁ = gathered_ready m _ _ _ h₀ in
     let h₁ = gathered_at m (by_next p q) _ _ _ f _ _ _ e₁ h₀.front_stays (c.in_ok-carry_if-2.ensures r₁) in

@@ -1,9 +1,6 @@
 use Rattle.std.proofs.Common.{◌<◌, ◌≤◌}
-use Rattle.distances.specs.Search.{Swept}
+use Rattle.distances.specs.Search.{Sweeps}
 use Rattle.distances.proofs.graph.Graph.sweep_block.Given as goal
 
 abbrev pub invariant-loop-i : goal.invariant-loop-i
-invariant-loop-i l = Swept l.self l.initial.area l.area (λ a b. (l.lo ≤ a) × (a < l.end) × (l.i < b)) l.moved
-
-abbrev pub decreases-loop-i : goal.decreases-loop-i
-decreases-loop-i l = l.i
+invariant-loop-i l = Sweeps l.self l.initial.area l.area (λ a b. (l.lo ≤ a) × (a < l.end) × (l.i < b)) l.moved
