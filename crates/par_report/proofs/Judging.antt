@@ -1,11 +1,7 @@
 -- What is answered of a row that was laid, or refused, and of a text that was refused.
-use Rattle.std.proofs.Common.{◌≡◌, ℕ, ◌<◌, ◌≤◌, ◌⊎◌, List, [], ◌∷◌, ◌++◌, length, get_or, take, Some, None, Err, Option, sym, refl, ap, ◌∙◌, subst, inl, inr, arith}
+use Rattle.std.proofs.Common.{ℕ, ◌<◌, List, [], ◌∷◌, ◌++◌, length, get_or, take, Ok, Err, Result, subst}
+use Rattle.std.specs.Result.{result_ok}
 use Rattle.refusals.specs.declared.Refusal.{Refusal}
-use Rattle.refusals.specs.declared.Refusal.TheVariants.{Length, Byte, End, Range, Empty, Bounds, Nested, Places, Counts, Symbol, Work, Code, Full, Complete, Stuck, Memory}
-use Rattle.refusals.specs.Numbering.{place_of}
-use Rattle.alphabets.specs.declared.Alphabet.TheVariants.{Letters}
-use Rattle.syntax.specs.Refuses.{Refuses, Applies}
-use Rattle.plans.specs.Plans.{RefusedText}
 use Rattle.symbols.specs.declared.letters.Letters.{Letters as LettersType}
 use Rattle.symbols.specs.contracts.letters.LettersKind.TheImpl.{ghosts as letters}
 use Rattle.symbols.specs.declared.kind.Kind.{Ghosts as KindGhosts}
@@ -14,11 +10,10 @@ use Rattle.bit_bank.specs.contracts.calls.BitBankBank.TheImpl.{ghosts as bits}
 use Rattle.bit_bank.specs.declared.bank.BitBank.{BitBank}
 use Rattle.sessions.specs.declared.session.Session.{Session}
 use Rattle.sessions.specs.Calls.{Call, Laid, laid_all}
-use Rattle.sessions.specs.Sessions.{Did}
+use Rattle.sessions.specs.Sessions.{Did, NeedTold}
 use Rattle.sessions.specs.Runs.{Run, done, then, RightAt, EveryRun}
 use Rattle.sessions.proofs.RowsLaid.{row_laid}
-use Rattle.par_report.specs.Pars.{RowRefused, Judged}
-use Rattle.par_report.specs.declared.data.ParError.TheVariants.{Refused}
+use Rattle.par_report.specs.Pars.{NeedSaid, RowRefused}
 use Rattle.par_report.proofs.NeverFull.{only_no_symbol}
 
 -- the last call of a run
@@ -54,38 +49,7 @@ refused_laid text row n e s t right less run =
       ),
     )
 
--- a refusal of a text has a place, or is want of memory
-pub refused_placed : (text row : List ℕ) (e : Refusal) (p : ℕ) → RefusedText Letters text e → place_of e ≡ Some p → Judged text row (Err (Refused e p))
-refused_placed text row e p refused is = told refused.why
-  where
-    told : ((e ≡ Memory) × (length text ≤ 512)) ⊎ (Refuses Letters text e × ((q : Refusal) → Refuses Letters text q → q ≡ e)) → Judged text row (Err (Refused e p))
-    told (inl (memory, short)) = absurd (none_some (sym (ap place_of memory) ∙ is))
-      where
-        none_some : ◌≡◌ {A = Option ℕ} None (Some p) → ⊥
-        none_some x = let z : ◌≡◌ {A = ℕ} 0 1 = cc in omega arith
-    told (inr (why, once)) = inl (why, is)
-
-pub refused_unplaced : (text : List ℕ) (e : Refusal) → RefusedText Letters text e → place_of e ≡ None → length text ≤ 512
-refused_unplaced text e refused is = told refused.why
-  where
-    placed : (r : Refusal) → Applies Letters text r → place_of r ≡ None → ⊥
-    placed Length h x = let z : ◌≡◌ {A = ℕ} 0 1 = cc in omega arith
-    placed (Byte p) h x = let z : ◌≡◌ {A = ℕ} 0 1 = cc in omega arith
-    placed (End p) h x = let z : ◌≡◌ {A = ℕ} 0 1 = cc in omega arith
-    placed (Range p) h x = let z : ◌≡◌ {A = ℕ} 0 1 = cc in omega arith
-    placed (Empty p) h x = let z : ◌≡◌ {A = ℕ} 0 1 = cc in omega arith
-    placed (Bounds p) h x = let z : ◌≡◌ {A = ℕ} 0 1 = cc in omega arith
-    placed (Nested p) h x = let z : ◌≡◌ {A = ℕ} 0 1 = cc in omega arith
-    placed (Places p) h x = let z : ◌≡◌ {A = ℕ} 0 1 = cc in omega arith
-    placed Counts h x = let z : ◌≡◌ {A = ℕ} 0 1 = cc in omega arith
-    placed Symbol h x = h
-    placed Work h x = h
-    placed Code h x = h
-    placed Full h x = h
-    placed Complete h x = h
-    placed Stuck h x = h
-    placed Memory h x = h
-
-    told : ((e ≡ Memory) × (length text ≤ 512)) ⊎ (Refuses Letters text e × ((q : Refusal) → Refuses Letters text q → q ≡ e)) → length text ≤ 512
-    told (inl (memory, short)) = short
-    told (inr (why, once)) = absurd (placed e why.0 is)
+-- a need that was told, or that there is none
+pub need_said : (text row : List ℕ) (r : Result ℕ Refusal) → NeedTold letters text row r → NeedSaid text row (result_ok r)
+need_said text row (Ok n) told = told
+need_said text row (Err e) told = told.1

@@ -1,4 +1,4 @@
-use Rattle.symbol_rows.proofs.Answered.{answered}
+use Rattle.sessions.proofs.Answered.{answered}
 use Rattle.sessions.proofs.Laying.{lay_did}
 use Rattle.sessions.proofs.session.Session.lay.Goals as goal
 
