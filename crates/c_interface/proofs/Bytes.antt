@@ -1,5 +1,6 @@
--- One letter more, and the byte behind it.
-use Rattle.std.proofs.Common.{◌≡◌, ℕ, ◌+◌, ◌<◌, Bool, true, false, cond, List, [], ◌∷◌, ◌++◌, length, get_or, take, set, Ok, sym, refl, ap, ◌∙◌, subst, inl, inr, arith}
+-- One letter more, and the byte behind it; and the need that is told.
+use Rattle.std.proofs.Common.{◌≡◌, ℕ, ◌+◌, ◌<◌, Bool, true, false, List, [], ◌∷◌, ◌++◌, length, get_or, take, set, Ok, Err, Result, MatchResult, sym, refl, ap, ◌∙◌, subst, inl, inr, arith}
+use mir.Val.{bool_byte}
 use Rattle.std.proofs.lemmas.List.{take_more, get_or-set_same, get_or-set_other}
 use Rattle.std.proofs.lemmas.Bool.{both_ways}
 use Rattle.std.proofs.lemmas.Bool.Decides.{eqb_tells}
@@ -9,9 +10,12 @@ use Rattle.bit_bank.specs.declared.bank.BitBank.{BitBank}
 use Rattle.bit_bank.specs.contracts.calls.BitBankBank.TheImpl.{ghosts as bits}
 use Rattle.sessions.specs.declared.session.Session.{Session}
 use Rattle.sessions.specs.Calls.{Laid, Fitted}
-use Rattle.sessions.specs.Sessions.{StandsOn, Did}
+use Rattle.sessions.specs.RowLanguage.{NeedIs}
+use Rattle.sessions.specs.Sessions.{StandsOn, Did, NeedTold}
+use Rattle.refusals.specs.declared.Refusal.{Refusal}
+use Rattle.par_report.specs.Pars.{IsAccepted}
 use Rattle.sessions.proofs.Standing.{stands_after}
-use Rattle.c_interface.specs.Told.{Tells}
+use Rattle.c_interface.specs.Told.{Tells, NoNeed}
 
 -- the session stands on one letter more
 pub laid_one :
@@ -22,7 +26,7 @@ laid_one text row i x s t less is on did =
     (stands_after letters bits text (take i row) (Laid x (Ok tt)) s t on did)
 
 -- the answer of fits as a byte
-pub tells : (text row : List ℕ) (b : Bool) (s t : Session Letters BitBank) → StandsOn letters bits text row s → Did letters bits s (Fitted b) t → Tells text row (cond b 1 0)
+pub tells : (text row : List ℕ) (b : Bool) (s t : Session Letters BitBank) → StandsOn letters bits text row s → Did letters bits s (Fitted b) t → Tells text row (bool_byte b)
 tells text row true s t on did = inl (refl, (did.1 text row on).0 refl)
 tells text row false s t on did = inr (refl, λ h. both_ways false refl ((did.1 text row on).1 h))
 
@@ -37,3 +41,9 @@ tells_more text row bytes i b less before here k below = elim (eqb_tells k i) [
   | inr (x, is) ↦
       subst (λ v. Tells text (take (k + 1) row) v) (sym (get_or-set_other bytes i k b 0 is)) (before k (omega arith))
 ]
+
+-- a need that was told of a row in an accepted text
+pub needed : (text row : List ℕ) (r : Result ℕ Refusal) → IsAccepted text → NeedTold letters text row r
+    → MatchResult r (λ n. IsAccepted text × NeedIs letters text row n) (λ _. NoNeed text row)
+needed text row (Ok n) accepted told = (accepted, told)
+needed text row (Err e) accepted told = inr (inr told.1)

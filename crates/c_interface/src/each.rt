@@ -1,4 +1,4 @@
-ghost use Rattle.std.specs.Prelude.{◌≡◌, ℕ, List, [], if◌then◌else◌};
+ghost use Rattle.std.specs.Prelude.{ℕ, List, []};
 ghost use Rattle.symbols.specs.contracts.letters.LettersKind.TheImpl.{ghosts as letters};
 ghost use Rattle.bit_bank.specs.contracts.calls.BitBankBank.TheImpl.{ghosts as bits};
 ghost use Rattle.sessions.specs.Sessions.{StandsOn};
@@ -7,13 +7,6 @@ ghost use Rattle.c_interface.specs.Told.{FitsTold};
 use bit_bank::BitBank;
 use sessions::Session;
 use symbols::Letters;
-
-// A test as a byte.
-fn as_byte(test: bool) -> u8
-    ensures { result ≡ (if test then 1 else 0) }
-{
-    if test { 1 } else { 0 }
-}
 
 // Lays letters one after another, and writes after each whether the row fits.
 pub(crate) fn fits_each(
@@ -31,7 +24,7 @@ pub(crate) fn fits_each(
             return i;
         }
         let yes = session.fits();
-        fits[i] = as_byte(yes);
+        fits[i] = u8::from(yes);
     }
     row.len()
 }

@@ -1,7 +1,7 @@
 ghost use Rattle.c_interface.specs.Told.{FitsAnswered, NeedAnswered};
 
 use crate::each::fits_each;
-use crate::needs::need_again;
+use crate::needs::need_of_row;
 use banks::Bank;
 use bit_bank::BitBank;
 use plans::Plan;
@@ -29,17 +29,9 @@ pub extern "C" fn jothwila_fits(heap: Global, pattern: &[u8], row: &[u8], fits: 
 pub extern "C" fn jothwila_need(heap: Global, pattern: &[u8], row: &[u8], again: u32) -> u32
     ensures { NeedAnswered pattern.now row.now result }
 {
-    let mut plan = Plan::<Letters>::new();
-    if let Err(_) = plan.read(heap, pattern) {
-        return u32::MAX;
-    }
-    let mut session = open(plan, BitBank::new());
-    if let Err(_) = session.lay_row(row) {
-        return u32::MAX;
-    }
-    let mut area = [0; 4096];
-    match need_again(&session, &mut area, again) {
-        Ok(n) => u32::from(n),
+    // C has no `Result`: a number that is no need stands for a refusal.
+    match need_of_row(heap, pattern, row, again) {
+        Ok(need) => u32::from(need),
         Err(_) => u32::MAX,
     }
 }

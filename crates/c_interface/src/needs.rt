@@ -1,16 +1,22 @@
-ghost use Rattle.std.specs.Prelude.{ℕ, List};
+ghost use Rattle.std.specs.Prelude.{ℕ, List, MatchResult};
+ghost use Rattle.par_report.specs.Pars.{IsAccepted};
+ghost use Rattle.sessions.specs.RowLanguage.{NeedIs};
+ghost use Rattle.c_interface.specs.Told.{NoNeed};
 ghost use Rattle.symbols.specs.contracts.letters.LettersKind.TheImpl.{ghosts as letters};
 ghost use Rattle.bit_bank.specs.contracts.calls.BitBankBank.TheImpl.{ghosts as bits};
 ghost use Rattle.completions.specs.Answers.{FullArea};
 ghost use Rattle.sessions.specs.Sessions.{StandsOn, NeedTold};
 
+use banks::Bank;
 use bit_bank::BitBank;
+use plans::Plan;
 use refusals::Refusal;
-use sessions::Session;
+use sessions::{Session, open};
+use std::alloc::Global;
 use symbols::Letters;
 
 // The need of the row, asked for once and then so many times again.
-pub(crate) fn need_again(
+fn need_again(
     session: &Session<Letters, BitBank>,
     area: &mut [u16],
     again: u32,
@@ -22,4 +28,23 @@ pub(crate) fn need_again(
         let _ = session.need(area);
     }
     need
+}
+
+// The need of a row in a pattern, asked for once and then so many times again; or why there is none.
+pub(crate) fn need_of_row(
+    heap: Global,
+    pattern: &[u8],
+    row: &[u8],
+    again: u32,
+) -> Result<u16, Refusal>
+    ensures { MatchResult result (λ n. IsAccepted pattern.now × NeedIs letters pattern.now row.now n) (λ _. NoNeed pattern.now row.now) }
+{
+    let mut plan = Plan::<Letters>::new();
+    plan.read(heap, pattern)?;
+    let mut session = open(plan, BitBank::new());
+    if let Err(e) = session.lay_row(row) {
+        return Err(e.refusal);
+    }
+    let mut area = [0; 4096];
+    need_again(&session, &mut area, again)
 }

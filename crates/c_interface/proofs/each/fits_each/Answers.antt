@@ -16,9 +16,9 @@ loop-i-preserved c =
           let (st, told, rest) = c.loop-i.invariant.1 text on in
           let next = laid_one text row i _ _ _ c.loop-i-test.true refl st c.in_default.ensures in (
             next,
-            tells_more text row bytes i c.as_byte.result c.if-i-fits.false told
-                (subst (λ b. Tells text (take (i + 1) row) b) (sym c.as_byte.ensures) (tells text (take (i + 1) row) c.fits-yes.result _ _ next c.fits-yes.ensures)),
-            λ k far. get_or-set_other bytes i k c.as_byte.result 0 (λ is. omega arith) ∙ rest k (omega arith),
+            tells_more text row bytes i c.from.result c.if-i-fits.false told
+                (subst (λ b. Tells text (take (i + 1) row) b) (sym c.from.ensures) (tells text (take (i + 1) row) c.fits-yes.result _ _ next c.fits-yes.ensures)),
+            λ k far. get_or-set_other bytes i k c.from.result 0 (λ is. omega arith) ∙ rest k (omega arith),
           ),
     )
 
