@@ -8,21 +8,33 @@ use refusals::Refusal;
 use sessions::{Session, open};
 use std::alloc::{AllocError, Global};
 use symbol_rows::{RowRefusal, read_row};
-use symbols::{Kind, Letters, Tiles};
+use symbols::Kind;
+use thiserror::Error;
 
-// The refusal of a pattern.
-fn refused(e: Refusal) -> Par {
-    Par::Refused {
-        number: e.number(),
-        place: e.place().unwrap_or(0),
+// Why nothing is told of a pattern and a row.
+#[derive(Clone, Copy, PartialEq, Eq, Debug, Error)]
+enum NoAnswer {
+    #[error("refused {} at {place}", .refusal.number())]
+    Refused { refusal: Refusal, place: usize },
+    #[error("hints do not lead to the end of the row")]
+    Misled,
+}
+
+impl From<Refusal> for NoAnswer {
+    fn from(refusal: Refusal) -> NoAnswer {
+        NoAnswer::Refused {
+            refusal,
+            place: refusal.place().unwrap_or(0),
+        }
     }
 }
 
-// The refusal of a row.
-fn row_refused(e: RowRefusal) -> Par {
-    Par::Refused {
-        number: e.refusal.number(),
-        place: e.before,
+impl From<RowRefusal> for NoAnswer {
+    fn from(refused: RowRefusal) -> NoAnswer {
+        NoAnswer::Refused {
+            refusal: refused.refusal,
+            place: refused.before,
+        }
     }
 }
 
@@ -42,68 +54,52 @@ fn hints_lead<K: Kind, B: Bank>(session: &mut Session<K, B>, area: &mut [u16], n
     session.fits()
 }
 
-// What is told of the row of a session; a row that hints do not lead to its end is told as refused with 0.
-fn tell<K: Kind, B: Bank>(session: &mut Session<K, B>, area: &mut [u16]) -> Par {
-    let fits = session.fits();
-    let Ok(n) = session.need(area) else {
-        return Par::Told { fits, need: None };
+// What is told of the row of a session, whose hints are then followed.
+fn tell<K: Kind, B: Bank>(session: &mut Session<K, B>) -> Result<Par, NoAnswer> {
+    let mut area = [0; 4096];
+    let par = Par {
+        fits: session.fits(),
+        need: session.need(&mut area).ok(),
     };
-    if hints_lead(session, area, n) {
-        Par::Told {
-            fits,
-            need: Some(n),
-        }
-    } else {
-        Par::Refused {
-            number: 0,
-            place: 0,
-        }
+    match par.need {
+        Some(need) if !hints_lead(session, &mut area, need) => Err(NoAnswer::Misled),
+        _ => Ok(par),
     }
 }
 
 // What is told of a pattern and a row over one bank.
-fn answer<K: Kind, B: Bank>(heap: Global, pattern: &[u8], row: &[u8]) -> Par {
+fn answer<K: Kind, B: Bank>(heap: Global, pattern: &[u8], row: &[u8]) -> Result<Par, NoAnswer> {
     let mut plan = Plan::<K>::new();
-    if let Err(e) = plan.read(heap, pattern) {
-        return refused(e);
-    }
-    let symbols = match read_row::<K>(heap, row) {
-        Ok(symbols) => symbols,
-        Err(e) => return row_refused(e),
-    };
+    plan.read(heap, pattern)?;
+    let symbols = read_row::<K>(heap, row)?;
     let mut session = open(plan, B::new());
-    if let Err(e) = session.lay_row(symbols.as_slice()) {
-        return row_refused(e);
+    session.lay_row(symbols.as_slice())?;
+    tell(&mut session)
+}
+
+// The words for what is told over one bank.
+fn said<K: Kind, B: Bank>(heap: Global, pattern: &[u8], row: &[u8]) -> Result<String, AllocError> {
+    match answer::<K, B>(heap, pattern, row) {
+        Ok(par) => format!(in heap; "{par}"),
+        Err(e) => format!(in heap; "{e}"),
     }
-    let mut area = [0; 4096];
-    tell(&mut session, &mut area)
 }
 
 // What is told over every bank: one answer, or that of each.
-fn over_banks<K: Kind>(heap: Global, pattern: &[u8], row: &[u8]) -> Result<String, AllocError> {
-    let bit = answer::<K, BitBank>(heap, pattern, row);
-    let list = answer::<K, ListBank>(heap, pattern, row);
-    let mask_bit = answer::<K, MaskLayer<BitBank>>(heap, pattern, row);
-    let mask_list = answer::<K, MaskLayer<ListBank>>(heap, pattern, row);
+pub(crate) fn over_banks<K: Kind>(
+    heap: Global,
+    pattern: &[u8],
+    row: &[u8],
+) -> Result<String, AllocError> {
+    let bit = said::<K, BitBank>(heap, pattern, row)?;
+    let list = said::<K, ListBank>(heap, pattern, row)?;
+    let mask_bit = said::<K, MaskLayer<BitBank>>(heap, pattern, row)?;
+    let mask_list = said::<K, MaskLayer<ListBank>>(heap, pattern, row)?;
     if list == bit && mask_bit == bit && mask_list == bit {
-        format!(in heap; "{bit}")
+        Ok(bit)
     } else {
         format!(in heap;
             "bit bank {bit}, list bank {list}, mask layer over the bit bank {mask_bit}, over the list bank {mask_list}"
         )
     }
-}
-
-// What is told of a letters pattern.
-pub(crate) fn answer_letters(
-    heap: Global,
-    pattern: &[u8],
-    row: &[u8],
-) -> Result<String, AllocError> {
-    over_banks::<Letters>(heap, pattern, row)
-}
-
-// What is told of a tiles pattern.
-pub(crate) fn answer_tiles(heap: Global, pattern: &[u8], row: &[u8]) -> Result<String, AllocError> {
-    over_banks::<Tiles>(heap, pattern, row)
 }

@@ -8,19 +8,20 @@
 mod answers;
 mod lines;
 
-use answers::{answer_letters, answer_tiles};
-use input::{first_line, read_input};
-use lines::{as_text, part, words_equal};
+use alphabets::Alphabet;
+use answers::over_banks;
+use input::{first_line, read_input, split_once};
+use lines::as_text;
 use std::alloc::Global;
+use symbols::{Letters, Tiles};
 
 // The line of one example and what is said of it.
 fn run(heap: Global, line: &[u8]) -> anyhow::Result<String> {
-    let (kind, rest) = part(line);
-    let (pattern, row) = part(rest);
-    let said = if words_equal(kind, b"tiles") {
-        answer_tiles(heap, pattern, row)?
-    } else {
-        answer_letters(heap, pattern, row)?
+    let (kind, rest) = split_once(line, b' ');
+    let (pattern, row) = split_once(rest, b' ');
+    let said = match Alphabet::try_from(kind) {
+        Ok(Alphabet::Tiles) => over_banks::<Tiles>(heap, pattern, row)?,
+        _ => over_banks::<Letters>(heap, pattern, row)?,
     };
     let shown = as_text(heap, line)?;
     Ok(format!(in heap; "{shown}: {said}")?)
@@ -29,10 +30,7 @@ fn run(heap: Global, line: &[u8]) -> anyhow::Result<String> {
 fn main(rt: HostRuntime) -> anyhow::Result<()> {
     let bytes = read_input(rt.alloc(), rt.stdin())?;
     let mut rest = bytes.as_slice();
-    for _ in 0..bytes.len() {
-        if rest.is_empty() {
-            break;
-        }
+    while !rest.is_empty() {
         let (line, more) = first_line(rest);
         let said = run(rt.alloc(), line)?;
         println!(rt; "{said}")?;

@@ -8,7 +8,7 @@
 #![tactic(auto)]
 
 ghost use Rattle.std.specs.Prelude.{◌≤◌, IfOk, vec_len};
-ghost use Rattle.input.specs.Lines.{FirstLine, TwoLines};
+ghost use Rattle.input.specs.Lines.{Parted, FirstLine, TwoLines};
 
 use std::alloc::Global;
 use std::io;
@@ -27,14 +27,21 @@ pub fn read_input<R: Read + Drop>(heap: Global, stream: R) -> io::Result<Vec<u8>
     Ok(bytes)
 }
 
+/// What stands before the first byte that is `mark`, and what comes behind it; the whole text and nothing where there is none.
+pub fn split_once(text: &[u8], mark: u8) -> (&[u8], &[u8])
+    ensures { Parted mark text.now result.0.now result.1.now }
+{
+    match text.iter().position(|b| *b == mark) {
+        Some(end) => (&text[..end], &text[end + 1..]),
+        None => (text, &[]),
+    }
+}
+
 /// The first line of a text, and what comes behind it.
 pub fn first_line(text: &[u8]) -> (&[u8], &[u8])
     ensures { FirstLine text.now result.0.now result.1.now }
 {
-    match text.iter().position(|b| *b == b'\n') {
-        Some(end) => (&text[..end], &text[end + 1..]),
-        None => (text, &[]),
-    }
+    split_once(text, b'\n')
 }
 
 /// The first two lines of a text.
