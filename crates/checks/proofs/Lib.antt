@@ -1,1 +1,2 @@
 pub mod PlaceCounts
+pub mod Searches

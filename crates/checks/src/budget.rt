@@ -15,7 +15,11 @@ pub fn count_places(n: &Node, seen: usize) -> Result<usize, Refusal>
     match n {
         Node::Empty => Ok(seen),
         Node::Leaf(at, _) | Node::Class(at, _, _) => {
-            if seen < 64 { Ok(seen + 1) } else { Err(Refusal::Places(*at)) }
+            if seen < 64 {
+                Ok(seen + 1)
+            } else {
+                Err(Refusal::Places(*at))
+            }
         }
         Node::Cat(a, b) | Node::Alt(a, b) => count_places(b, count_places(a, seen)?),
         Node::Repeat(a, _) => count_places(a, seen),
