@@ -1,10 +1,11 @@
 -- The leftmost place of a fault, from what a node shows and what its parts have.
-use Rattle.std.proofs.Common.{◌≡◌, ℕ, ◌≤◌, ◌⊎◌, Some, None, Option, Box, sym, subst, inl, inr, arith}
+use Rattle.std.proofs.Common.{◌≡◌, ℕ, ◌≤◌, ◌⊎◌, Some, None, Option, Box, sym, subst, inl, inr, arith, refl}
 use Rattle.std.proofs.lemmas.Bool.{cases_lt, lt-leb, le-leb}
 use Rattle.std.specs.declared.alloc.Global.{Global}
-use Rattle.bits.specs.declared.set.Set64.{Set64}
 use Rattle.grammar.specs.Nodes.{ast_of}
-use Rattle.grammar.specs.declared.tree.Node.{Node, Empty, Leaf, Class, Cat, Alt}
+use Rattle.grammar.specs.declared.tree.Node.{Node, Cat, Alt, Repeat}
+use Rattle.grammar.specs.declared.tree.Node.TheVariants.{Empty, Leaf, Class, Cat', Alt', Repeat'}
+use Rattle.grammar.specs.declared.tree.Times.{Times}
 use Rattle.grammar.specs.Ast.{Ast, empty, leaf, class, cat, alt, repeat, star, plus, opt, counted as counted_from}
 use Rattle.checks.specs.Faults.{Finds, least, CountedAt, NestedAt}
 use Rattle.checks.specs.Searches.{Fault, backward, no_code, bounds, counted, nested, FaultAt, InParts, Shows}
@@ -78,13 +79,19 @@ whole f t (Some q) (Some r) h k = elim (cases_lt r q) [
   | inr l ↦ rw (le-leb q r l) (h.0, λ p x. elim (h.1 p x) [ inl y ↦ y | inr y ↦ (let z = k.1 p y in omega arith) ])
 ]
 
+abbrev holding : Box (Unit {0}) Global → Node → Box Node Global
+holding b n = record { ptr = b.ptr; alloc = b.alloc; value = n }
+
 -- a node without parts
 pub no_parts :
-    {n : Node} → (n ≡ Empty) ⊎ (((x : ℕ) × (y : Set64) × (n ≡ Leaf x y)) ⊎ ((x : ℕ) × (y : Set64) × (z : Option ℕ) × (n ≡ Class x y z)))
+    (n : Node) → ((a b : Box Node Global) → n ≡ Cat a b → ⊥) → ((a b : Box Node Global) → n ≡ Alt a b → ⊥) → ((a : Box Node Global) (t : Times) → n ≡ Repeat a t → ⊥)
     → (f : Fault) (p : ℕ) → InParts f (ast_of n) p → ⊥
-no_parts (inl e) f p h = subst (λ v. InParts f (ast_of v) p) e h
-no_parts (inr (inl (x, y, e))) f p h = subst (λ v. InParts f (ast_of v) p) e h
-no_parts (inr (inr (x, y, z, e))) f p h = subst (λ v. InParts f (ast_of v) p) e h
+no_parts Empty c a r f p h = h
+no_parts (Leaf at codes) c a r f p h = h
+no_parts (Class at codes back) c a r f p h = h
+no_parts (Cat' p l q m) c a r f x h = c (holding p l) (holding q m) refl
+no_parts (Alt' p l q m) c a r f x h = a (holding p l) (holding q m) refl
+no_parts (Repeat' p l t) c a r f x h = r (holding p l) t refl
 
 -- two parts
 pub pair_parts :

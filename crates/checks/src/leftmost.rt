@@ -24,11 +24,11 @@ fn leftmost<F: Fn(&Node) -> Option<usize>>(n: &Node, fault: &F) -> Option<usize>
 {
     let here = fault(n);
     match n {
-        Node::Empty | Node::Leaf(_, _) | Node::Class(_, _, _) => here,
         Node::Cat(a, b) | Node::Alt(a, b) => {
             earlier(here, earlier(leftmost(a, fault), leftmost(b, fault)))
         }
         Node::Repeat(a, _) => earlier(here, leftmost(a, fault)),
+        _ => here,
     }
 }
 

@@ -5,14 +5,8 @@ use Rattle.checks.specs.Searches.{InParts}
 use Rattle.checks.proofs.Searches.{least_or, alone, whole, no_parts, pair_parts}
 use Rattle.checks.proofs.leftmost.+leftmost.Goals as goal
 
-pub returns-in-Empty : goal.returns-in-Empty
-returns-in-Empty g t c = λ f told. alone f _ _ (no_parts c.in-Empty.is f) (told c.args.n.now c.fault-here.result (search rules))
-
-pub returns-in-Empty-2 : goal.returns-in-Empty-2
-returns-in-Empty-2 g t c = λ f told. alone f _ _ (no_parts c.in-Empty.is f) (told c.args.n.now c.fault-here.result (search rules))
-
-pub returns-in-Empty-3 : goal.returns-in-Empty-3
-returns-in-Empty-3 g t c = λ f told. alone f _ _ (no_parts c.in-Empty.is f) (told c.args.n.now c.fault-here.result (search rules))
+pub returns-in_default : goal.returns-in_default
+returns-in_default g t c = λ f told. alone f _ _ (no_parts c.args.n.now c.in_default.not-Cat c.in_default.not-Alt c.in_default.not-Repeat f) (told c.args.n.now c.fault-here.result (search rules))
 
 pub returns-in-Repeat : goal.returns-in-Repeat
 returns-in-Repeat g t c = λ f told.
