@@ -4,11 +4,12 @@ ghost use Rattle.glushkov.specs.Nodes.{tree_in};
 ghost use Rattle.glushkov.specs.Passes.{FreshCounts, FreshRows};
 ghost use Rattle.tables.specs.Tables.{Roomy, TableOf};
 
-use crate::counts::{count, fill};
+use crate::counts::fill;
 use crate::data::Counts;
 use crate::joins::join_row;
 use crate::links::link;
 use bits::Set64;
+use checks::count_places;
 use grammar::Node;
 use tables::{Link, LinkRow, Links, Place, Table};
 use widths::Widths;
@@ -59,9 +60,10 @@ fn fill_table(node: &Node, places: usize) -> Option<Table>
 }
 
 /// The table of a tree, or `None` where the tree has more than 64 places, a width above 1,000, or widths that add to more than 4,096.
+#[tactic(auto, using(syntax::proofs::PlaceCounts::length_places_of))]
 pub fn table_of(node: &Node) -> Option<Table>
     ensures { MatchOption result (Roomy (tree_in node.now) → ⊥) (λ t. TableOf (tree_in node.now) t) }
 {
-    let places = count(node, 0)?;
+    let places = count_places(node, 0).ok()?;
     fill_table(node, places)
 }

@@ -1,4 +1,4 @@
-ghost use Rattle.std.specs.Prelude.{◌≡◌, ◌+◌, ◌<◌, ◌≤◌, MatchOption};
+ghost use Rattle.std.specs.Prelude.{◌≡◌, ◌+◌, ◌<◌, ◌≤◌};
 ghost use Rattle.automata.specs.Places.{size, nullable};
 ghost use Rattle.glushkov.specs.Nodes.{tree_in, bounds_of_body};
 ghost use Rattle.glushkov.specs.Passes.{CountsOf, Written, bounds_or};
@@ -8,19 +8,6 @@ use crate::parts::can_be_empty;
 use bits::Set64;
 use grammar::{Node, Times};
 use tables::Place;
-
-// How many places there are behind `seen` others, or `None` where they come to more than 64.
-pub(crate) fn count(node: &Node, seen: usize) -> Option<usize>
-    requires { seen ≤ 64 }
-    ensures { MatchOption result (64 < seen + size (tree_in node.now)) (λ n. (n ≡ seen + size (tree_in node.now)) × (n ≤ 64)) }
-{
-    match node {
-        Node::Empty => Some(seen),
-        Node::Leaf(_, _) | Node::Class(_, _, _) => { if seen < 64 { Some(seen + 1) } else { None } }
-        Node::Cat(a, b) | Node::Alt(a, b) => count(b, count(a, seen)?),
-        Node::Repeat(body, _) => count(body, seen),
-    }
-}
 
 // Whether a part is nullable.
 pub(crate) fn is_nullable(node: &Node) -> bool
