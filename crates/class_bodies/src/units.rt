@@ -59,10 +59,8 @@ fn push_faces(body: &mut Vec<u8>, codes: Set64, colour: Colour) -> Result<(), Al
     ensures { OnOk result (SpellsMore 2 body.old.items body.new.items (λ c. member codes c && (nat_le (10 * number_of colour) c && nat_lt c (10 * number_of colour + 10)))) }
 {
     let first = 10 * colour.number();
-    for face in 0..10 {
-        if codes.has(first + face) {
-            push_tile(body, colour, b'0' + face)?;
-        }
+    for code in codes.intersection(Set64::span(first, first + 9)) {
+        push_tile(body, colour, b'0' + (code - first))?;
     }
     Ok(())
 }
