@@ -101,7 +101,7 @@ impl<'a> Reader<'a> {
         Ok((rest.after(first), p))
     }
 
-    /// How many codes there are.
+    /// How many codes there are, by the length of a unit.
     fn code_count(&self) -> u8
         ensures { result ≡ codes_of self.now.unit }
     {

@@ -1,8 +1,9 @@
-use Rattle.std.proofs.Common.{◌≡◌, ℕ, ◌+◌, ◌-◌, ◌*◌, Bool, not, ◌&&◌, ◌||◌, eqb, ltb, leb, sym, ap, ◌∙◌, arith, true-eqb}
+use Rattle.std.proofs.Common.{◌≡◌, ℕ, ◌+◌, ◌-◌, ◌*◌, not, ◌&&◌, ◌||◌, eqb, sym, ap, ◌∙◌, arith, true-eqb}
 use Rattle.std.proofs.lemmas.Bool.{and_parts}
 use Rattle.alphabets.specs.Colours.{number_of}
 use Rattle.bits.specs.declared.set.Set64.{Set64}
 use Rattle.bits.specs.Members.{member}
+use Rattle.class_bodies.specs.ClassBody.{codes_of_colour}
 use Rattle.class_bodies.proofs.UnitCodes.{more_like, more_more, nothing_more, codes_of_tile_lem, in_span, in_colour, all_left, one_passed, none_left}
 use Rattle.class_bodies.proofs.units.push_faces.Goals as goal
 
@@ -10,7 +11,7 @@ pub loop-code-init : goal.loop-code-init
 loop-code-init c =
     let first = 10 * number_of c.args.colour in
     let n = c.number-first.ensures in
-    let is : (k : ℕ) → member c.into_iter-code-iterator.result.left k ≡ (member c.args.codes k && (leb first k && ltb k (first + 10))) =
+    let is : (k : ℕ) → member c.into_iter-code-iterator.result.left k ≡ codes_of_colour c.args.codes c.args.colour k =
     λ k. ap (λ (s : Set64). member s k) c.into_iter-code-iterator.ensures.into_iter_gives ∙ c.intersection-code-items.ensures k ∙ in_span (member c.args.codes k) _ k first (omega arith) (rw n.0 at (c.span.ensures k)) in
     record {
       left = λ k h. sym (is k) ∙ h;
@@ -23,7 +24,7 @@ loop-code-preserved c =
     let l = c.loop-code.invariant in
     let s = c.in-Some.ensures.steps in
     let n = c.in-Some.code in
-    let all : ℕ → Bool = λ k. member c.args.codes k && (leb first k && ltb k (first + 10)) in
+    let all = codes_of_colour c.args.codes c.args.colour in
     let h = l.left n s.least.has in
     let b = in_colour (member c.args.codes n) n first h in
     let f = c.number-first.ensures.0 in
