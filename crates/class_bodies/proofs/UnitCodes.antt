@@ -1,5 +1,6 @@
 -- The codes of one more item of a class body, and of all items so far.
 use Rattle.std.proofs.Common.{◌≡◌, ℕ, ◌+◌, ◌-◌, ◌*◌, ◌<◌, ◌≤◌, Bool, true, false, cond, not, ◌&&◌, ◌||◌, eqb, ltb, leb, List, [], ◌++◌, is_ok, IfOk, Ok, Err, Result, sym, refl, ap, ◌∙◌, subst, arith}
+use Rattle.std.proofs.lemmas.Bool.{false≢true}
 use Rattle.std.proofs.lemmas.Bool.Decides.{nat_tests}
 use Rattle.grammar.specs.Codes.{Codes, no_codes, codes_of_letter, codes_of_tile, codes_of_range, joined_codes}
 use Rattle.grammar.specs.Grammar.{nothing}
@@ -78,16 +79,39 @@ colour_codes colour c =
     sym (one_colour (letter_of colour) (number_of colour) c l.0 l.1 l.2)
     ∙ (let y : ((leb (10 * number_of colour) c && leb c (10 * number_of colour + 9)) && ltb c 64) ≡ (leb (10 * number_of colour) c && ltb c (10 * number_of colour + 10)) = grind (arith, nat_tests) in y)
 
--- The faces so far, and one more where it is in the set or not.
-pub face_codes : (b : Bool) (c first face : ℕ) → (c ≡ first + face → b ≡ true)
-    → ((b && (leb first c && ltb c (first + face))) || eqb c (first + face)) ≡ (b && (leb first c && ltb c (first + (face + 1))))
-face_codes true c first face h = grind (arith, nat_tests)
-face_codes false c first face h = grind (arith, nat_tests)
+-- No more codes.
+pub nothing_more : (u : ℕ) (s : List ℕ) (f : ℕ → Bool) → ((c : ℕ) → f c ≡ false) → SpellsMore u s s f
+nothing_more u s f none before old = codes_like u s before _ (λ c. or_false (before c) (f c) (none c)) old
+  where
+    or_false : (x y : Bool) → y ≡ false → x ≡ (x || y)
+    or_false true y e = refl
+    or_false false y e = sym e
 
-pub no_face : (b : Bool) (c first face : ℕ) → (c ≡ first + face → b ≡ false)
-    → (b && (leb first c && ltb c (first + face))) ≡ (b && (leb first c && ltb c (first + (face + 1))))
-no_face true c first face h = grind (arith, nat_tests)
-no_face false c first face h = refl
+-- The codes of a colour within a set, and a code of them.
+pub in_span : (m s : Bool) (c first : ℕ) → first ≤ 30 → s ≡ ((leb first c && leb c (first + 9)) && ltb c 64) → (m && s) ≡ (m && (leb first c && ltb c (first + 10)))
+in_span true s c first h is = grind (arith, nat_tests)
+in_span false s c first h is = refl
+
+pub in_colour : (m : Bool) (c first : ℕ) → (m && (leb first c && ltb c (first + 10))) ≡ true → (first ≤ c) × (c < first + 10)
+in_colour true c first e = (grind (arith, nat_tests), grind (arith, nat_tests))
+in_colour false c first e = absurd (false≢true e)
+
+-- A walk over the codes m has none behind it at first, then one more each time (is), and in the end all.
+pub all_left : (m old : Bool) → old ≡ m → (m && not old) ≡ false
+all_left true old e = rw e refl
+all_left false old e = refl
+
+pub one_passed : (m old is : Bool) → (is ≡ true → m ≡ true) → ((m && not old) || is) ≡ (m && not (old && not is))
+one_passed true true true h = refl
+one_passed true true false h = refl
+one_passed true false true h = refl
+one_passed true false false h = refl
+one_passed false old true h = sym (h refl)
+one_passed false old false h = refl
+
+pub none_left : (m left : Bool) → left ≡ false → (m && not left) ≡ m
+none_left true left e = rw e refl
+none_left false left e = refl
 
 -- All ten faces are in the set m: nothing is left (d) of the span (s) of their codes without it.
 pub all_faces : (s d m : Bool) (c first : ℕ) → first ≤ 30 → s ≡ ((leb first c && leb c (first + 9)) && ltb c 64) → d ≡ (s && not m) → d ≡ false

@@ -2,8 +2,8 @@ ghost use Rattle.std.specs.Prelude.{◌≡◌, ℕ, ◌+◌, ◌*◌, ◌<◌, �
 ghost use Rattle.bits.specs.Members.{member};
 ghost use Rattle.grammar.specs.Codes.{FaceUnit, codes_of, codes_of_tile};
 ghost use Rattle.alphabets.specs.Alphabets.{unit_of};
-ghost use Rattle.alphabets.specs.Colours.{letter_of, number_of};
-ghost use Rattle.class_bodies.specs.ClassBody.{SpellsCodes, SpellsMore};
+ghost use Rattle.alphabets.specs.Colours.{letter_of};
+ghost use Rattle.class_bodies.specs.ClassBody.{SpellsCodes, SpellsMore, codes_of_colour};
 
 use alphabets::{Alphabet, Colour};
 use bits::Set64;
@@ -56,20 +56,18 @@ fn push_tile(body: &mut Vec<u8>, colour: Colour, face: u8) -> Result<(), AllocEr
 
 // Appends the tiles of one colour that these codes have, each by itself.
 fn push_faces(body: &mut Vec<u8>, codes: Set64, colour: Colour) -> Result<(), AllocError>
-    ensures { OnOk result (SpellsMore 2 body.old.items body.new.items (λ c. member codes c && (nat_le (10 * number_of colour) c && nat_lt c (10 * number_of colour + 10)))) }
+    ensures { OnOk result (SpellsMore 2 body.old.items body.new.items (codes_of_colour codes colour)) }
 {
     let first = 10 * colour.number();
-    for face in 0..10 {
-        if codes.has(first + face) {
-            push_tile(body, colour, b'0' + face)?;
-        }
+    for code in codes.intersection(Set64::span(first, first + 9)) {
+        push_tile(body, colour, b'0' + (code - first))?;
     }
     Ok(())
 }
 
 // Appends the tiles of one colour that these codes have: all ten at once, or each by itself.
 fn push_colour(body: &mut Vec<u8>, codes: Set64, colour: Colour) -> Result<(), AllocError>
-    ensures { OnOk result (SpellsMore 2 body.old.items body.new.items (λ c. member codes c && (nat_le (10 * number_of colour) c && nat_lt c (10 * number_of colour + 10)))) }
+    ensures { OnOk result (SpellsMore 2 body.old.items body.new.items (codes_of_colour codes colour)) }
 {
     let first = 10 * colour.number();
     let all = Set64::span(first, first + 9);

@@ -1,9 +1,9 @@
 -- The tree that a `Node` stands for.
 use Rattle.std.specs.Prelude.{ℕ, Option}
 use Rattle.bits.specs.Members.{member}
-use Rattle.bits.specs.declared.set.Set64.{Set64}
 use Rattle.grammar.specs.Codes.{Codes}
 use Rattle.grammar.specs.Ast.{Ast, empty, leaf, class, cat, alt, repeat, Repetition, star, plus, opt, counted}
+use Rattle.grammar.specs.declared.classes.Spelled.{Spelled}
 use Rattle.grammar.specs.declared.tree.Node.{Node}
 use Rattle.grammar.specs.declared.tree.Node.TheVariants.{Empty, Leaf, Class, Cat', Alt', Repeat'}
 use Rattle.grammar.specs.declared.tree.Times.{Times}
@@ -24,5 +24,5 @@ ast_of (Alt' p l q r) = alt (ast_of l) (ast_of r)
 ast_of (Repeat' p l times) = repeat (repetition_of times) (ast_of l)
 
 -- what the body of a class spells, with its first range that runs backwards
-abbrev pub spelled : Set64 × Option ℕ → Codes × Option ℕ
-spelled x = (member x.0, x.1)
+abbrev pub spelled : Spelled → Codes × Option ℕ
+spelled x = (member x.codes, x.back)

@@ -1,8 +1,9 @@
 //! A class, `[body]` or `[^body]`.
 ghost use Rattle.std.specs.Prelude.{◌≡◌, ℕ, ◌+◌, ◌<◌, ◌≤◌, length, Option as Maybe, ◌≢◌};
 ghost use Rattle.grammar.specs.Ast.{Ast};
-ghost use Rattle.grammar.specs.Codes.{Codes, Letter, codes_of};
-ghost use Rattle.grammar.specs.Grammar.{byte, Body, Atom};
+ghost use Rattle.bits.specs.Members.{member};
+ghost use Rattle.grammar.specs.Codes.{Codes, Letter, codes_of, codes_of_range, joined_codes};
+ghost use Rattle.grammar.specs.Grammar.{byte, back_of, Body, Atom};
 ghost use Rattle.grammar.specs.Nodes.{ast_of, spelled};
 ghost use Rattle.grammar.specs.Reading.{Reads, AfterBody, Anything};
 
@@ -12,18 +13,55 @@ use crate::units::letter_codes;
 use bits::Set64;
 use refusals::Refusal;
 
+/// What the body of a class spells.
+#[derive(Clone, Copy)]
+pub(crate) struct Spelled {
+    codes: Set64,
+    /// The first letter of its first range that runs backwards.
+    back: Option<usize>,
+}
+
+impl Spelled {
+    /// These codes, and then what was spelled.
+    fn after(self, first: Set64) -> Spelled
+        ensures { spelled result ≡ (joined_codes (member first) (member self.codes), self.back) }
+    {
+        Spelled {
+            codes: first.union(self.codes),
+            back: self.back,
+        }
+    }
+
+    /// The range between two letters, the first of which stands at a place, and then what was spelled.
+    fn after_range(self, at: usize, from: u8, to: u8) -> Spelled
+        requires { Letter from × Letter to }
+        ensures { spelled result ≡ (joined_codes (codes_of_range from to) (member self.codes), back_of at from to self.back) }
+    {
+        Spelled {
+            codes: Set64::span(from - b'a', to - b'a').union(self.codes),
+            back: if to < from { Some(at) } else { self.back },
+        }
+    }
+}
+
 impl<'a> Reader<'a> {
-    /// The body of a class up to its `]`: the codes that it spells with its first range that runs backwards, and the place of the `]`.
+    /// The body of a class up to its `]`: what it spells, and the place of the `]`.
     #[cycle(body_letters_tiles)]
-    fn body(&self, at: usize) -> Result<((Set64, Option<usize>), usize), Refusal>
+    fn body(&self, at: usize) -> Result<(Spelled, usize), Refusal>
         requires { at ≤ length self.now.text.now }
-        ensures { Reads (Set64 × Maybe ℕ) (Codes × Maybe ℕ) spelled (Body self.now.unit) AfterBody self.now.text.now at at result }
+        ensures { Reads Spelled (Codes × Maybe ℕ) spelled (Body self.now.unit) AfterBody self.now.text.now at at result }
     {
         let Some(first) = self.byte(at) else {
             return Err(Refusal::End(at));
         };
         match first {
-            b']' => Ok(((Set64::empty(), None), at)),
+            b']' => {
+                let nothing = Spelled {
+                    codes: Set64::empty(),
+                    back: None,
+                };
+                Ok((nothing, at))
+            }
             _ if self.unit == 2 => self.tiles(at),
             b'a'..=b'z' => self.letters(at, first),
             _ => Err(Refusal::Byte(at)),
@@ -32,22 +70,21 @@ impl<'a> Reader<'a> {
 
     /// A letter or a range from that letter on, and the rest of the body.
     #[cycle(body_letters_tiles)]
-    fn letters(&self, at: usize, from: u8) -> Result<((Set64, Option<usize>), usize), Refusal>
+    fn letters(&self, at: usize, from: u8) -> Result<(Spelled, usize), Refusal>
         requires { (self.now.unit ≡ 1) × (byte self.now.text.now at ≡ from) × Letter from }
-        ensures { Reads (Set64 × Maybe ℕ) (Codes × Maybe ℕ) spelled (Body self.now.unit) AfterBody self.now.text.now at at result }
+        ensures { Reads Spelled (Codes × Maybe ℕ) spelled (Body self.now.unit) AfterBody self.now.text.now at at result }
     {
         if !self.next_is(at + 1, b'-') {
-            let ((rest, back), p) = self.body(at + 1)?;
-            return Ok(((letter_codes(from).union(rest), back), p));
+            let (rest, p) = self.body(at + 1)?;
+            return Ok((rest.after(letter_codes(from)), p));
         }
         let Some(to) = self.byte(at + 2) else {
             return Err(Refusal::End(at + 2));
         };
         match to {
             b'a'..=b'z' => {
-                let ((rest, back), p) = self.body(at + 3)?;
-                let back = if to < from { Some(at) } else { back };
-                Ok(((Set64::span(from - b'a', to - b'a').union(rest), back), p))
+                let (rest, p) = self.body(at + 3)?;
+                Ok((rest.after_range(at, from, to), p))
             }
             _ => Err(Refusal::Byte(at + 2)),
         }
@@ -55,16 +92,16 @@ impl<'a> Reader<'a> {
 
     /// A tile's unit, and the rest of the body.
     #[cycle(body_letters_tiles)]
-    fn tiles(&self, at: usize) -> Result<((Set64, Option<usize>), usize), Refusal>
+    fn tiles(&self, at: usize) -> Result<(Spelled, usize), Refusal>
         requires { (self.now.unit ≡ 2) × (at < length self.now.text.now) × (byte self.now.text.now at ≢ 93) }
-        ensures { Reads (Set64 × Maybe ℕ) (Codes × Maybe ℕ) spelled (Body self.now.unit) AfterBody self.now.text.now at at result }
+        ensures { Reads Spelled (Codes × Maybe ℕ) spelled (Body self.now.unit) AfterBody self.now.text.now at at result }
     {
         let (first, k) = self.tile(at)?;
-        let ((rest, back), p) = self.body(k)?;
-        Ok(((first.union(rest), back), p))
+        let (rest, p) = self.body(k)?;
+        Ok((rest.after(first), p))
     }
 
-    /// How many codes there are.
+    /// How many codes there are, by the length of a unit.
     fn code_count(&self) -> u8
         ensures { result ≡ codes_of self.now.unit }
     {
@@ -77,13 +114,11 @@ impl<'a> Reader<'a> {
         ensures { Reads Node Ast ast_of (Atom self.now.unit) Anything self.now.text.now (at + 1) at result }
     {
         if self.next_is(at + 1, b'^') {
-            let ((codes, back), p) = self.body(at + 2)?;
-            return Ok((
-                Node::Class(at, codes.complement(self.code_count()), back),
-                p + 1,
-            ));
+            let (body, p) = self.body(at + 2)?;
+            let codes = body.codes.complement(self.code_count());
+            return Ok((Node::Class(at, codes, body.back), p + 1));
         }
-        let ((codes, back), p) = self.body(at + 1)?;
-        Ok((Node::Class(at, codes, back), p + 1))
+        let (body, p) = self.body(at + 1)?;
+        Ok((Node::Class(at, body.codes, body.back), p + 1))
     }
 }

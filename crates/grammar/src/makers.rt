@@ -8,30 +8,23 @@ use crate::tree::{Node, Times};
 use refusals::Refusal;
 use std::alloc::Global;
 
-/// A node in memory of its own.
-fn boxed(heap: Global, node: Node) -> Result<Box<Node>, Refusal>
-    ensures { MatchResult result (λ x. x.value ≡ node) (λ e. e ≡ Memory) }
-{
-    Box::new(heap, node).map_err(|_| Refusal::Memory)
-}
-
 /// One part after another.
 pub(crate) fn cat(heap: Global, a: Node, b: Node) -> Result<Node, Refusal>
     ensures { MatchResult result (λ n. ast_of n ≡ ast.cat (ast_of a) (ast_of b)) (λ e. e ≡ Memory) }
 {
-    Ok(Node::Cat(boxed(heap, a)?, boxed(heap, b)?))
+    Ok(Node::Cat(Box::new(heap, a)?, Box::new(heap, b)?))
 }
 
 /// One part or the other.
 pub(crate) fn alt(heap: Global, a: Node, b: Node) -> Result<Node, Refusal>
     ensures { MatchResult result (λ n. ast_of n ≡ ast.alt (ast_of a) (ast_of b)) (λ e. e ≡ Memory) }
 {
-    Ok(Node::Alt(boxed(heap, a)?, boxed(heap, b)?))
+    Ok(Node::Alt(Box::new(heap, a)?, Box::new(heap, b)?))
 }
 
 /// A part, so often.
 pub(crate) fn repeat(heap: Global, a: Node, times: Times) -> Result<Node, Refusal>
     ensures { MatchResult result (λ n. ast_of n ≡ ast.repeat (repetition_of times) (ast_of a)) (λ e. e ≡ Memory) }
 {
-    Ok(Node::Repeat(boxed(heap, a)?, times))
+    Ok(Node::Repeat(Box::new(heap, a)?, times))
 }

@@ -23,7 +23,7 @@ pub fn alphabet<K: Kind>() -> Alphabet
     }
 }
 
-// The plan with the table of a text.
+// The plan with the table of a text. The alphabet and the text serve its promise alone: a plan is that of some text.
 fn plan_with<K>(alphabet: Alphabet, text: &[u8], table: Table) -> Plan<K>
     requires { TableFrom alphabet text.now table }
     ensures { result.table ≡ table }

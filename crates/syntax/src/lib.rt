@@ -4,7 +4,7 @@
 //! 1 its length, 2 and 3 the grammar, 4 ranges that run backwards, 5 classes that spell no code, 6 wrong bounds,
 //! 7 counted repeats inside one another, 8 too many places, 9 too many counts. What none of them refuses is accepted.
 //! `specs/Refuses.antt` says when each refusal applies, `specs/TextLanguage.antt` what the language of a text is.
-//! The main types are `grammar::Node`, the tree, `grammar::Alphabet` and `refusals::Refusal`.
+//! The main types are `grammar::Node`, the tree, `alphabets::Alphabet` and `refusals::Refusal`.
 //!
 //! `parse(heap, Alphabet::Letters, b"(a{2}){3}")` is `Err(Refusal::Nested(2))`.
 

@@ -1,8 +1,8 @@
 //! A pattern, read and checked.
 ghost use Rattle.syntax.specs.Refuses.{Parses};
 
-use checks::check;
 use alphabets::Alphabet;
+use checks::check;
 use grammar::{Node, read_tree};
 use refusals::Refusal;
 use std::alloc::Global;

@@ -1,33 +1,48 @@
-use Rattle.std.proofs.Common.{◌≡◌, ℕ, ◌+◌, ◌*◌, Bool, ◌&&◌, ◌||◌, ltb, leb, vec_items, sym, ap, ◌∙◌, subst, arith}
+use Rattle.std.proofs.Common.{◌≡◌, ℕ, ◌+◌, ◌-◌, ◌*◌, not, ◌&&◌, ◌||◌, eqb, sym, ap, ◌∙◌, arith, true-eqb}
+use Rattle.std.proofs.lemmas.Bool.{and_parts}
 use Rattle.alphabets.specs.Colours.{number_of}
+use Rattle.bits.specs.declared.set.Set64.{Set64}
 use Rattle.bits.specs.Members.{member}
-use Rattle.class_bodies.specs.ClassBody.{SpellsMore}
-use Rattle.class_bodies.proofs.UnitCodes.{more_like, more_more, codes_of_tile_lem, face_codes, no_face}
+use Rattle.class_bodies.specs.ClassBody.{codes_of_colour}
+use Rattle.class_bodies.proofs.UnitCodes.{more_like, more_more, nothing_more, codes_of_tile_lem, in_span, in_colour, all_left, one_passed, none_left}
 use Rattle.class_bodies.proofs.units.push_faces.Goals as goal
-use Rattle.class_bodies.proofs.units.push_faces.Goals.{then-has+in_ok-push_tile, else-has}
 
-pub loop-face-preserved : goal.loop-face-preserved
-loop-face-preserved c =
-    let codes = c.args.codes in
+pub loop-code-init : goal.loop-code-init
+loop-code-init c =
     let first = 10 * number_of c.args.colour in
-    let face = c.loop-face.face in
-    let has : c.has.result ≡ member codes (first + face) = rw c.number-first.ensures.0 at c.has.ensures in
-    let body = vec_items c.args.body.now in
-    let so_far : ℕ → Bool = λ k. member codes k && (leb first k && ltb k (first + face)) in
-    let and-more : ℕ → Bool = λ k. member codes k && (leb first k && ltb k (first + (face + 1))) in
-    elim c.if-has.branch [
-      | then-has+in_ok-push_tile w ↦
-          subst (λ v. SpellsMore 2 body (vec_items v) and-more) (sym w.body-is)
-          (more_like 2 _ _ _ _
-          (λ k. ap (λ v. so_far k || v) (codes_of_tile_lem c.args.colour face k c.loop-face-test.true)
-          ∙ face_codes (member codes k) k first face (λ e. ap (member codes) e ∙ sym has ∙ w.if-has.true))
-          (more_more 2 _ _ _ _ _ c.loop-face.invariant w.in_ok-push_tile.ensures))
-      | else-has w ↦
-          subst (λ v. SpellsMore 2 body (vec_items v) and-more) (sym w.body-is)
-          (more_like 2 _ _ _ _ (λ k. no_face (member codes k) k first face (λ e. ap (member codes) e ∙ sym has ∙ w.if-has.false)) c.loop-face.invariant)
-    ]
+    let n = c.number-first.ensures in
+    let is : (k : ℕ) → member c.into_iter-code-iterator.result.left k ≡ codes_of_colour c.args.codes c.args.colour k =
+    λ k. ap (λ (s : Set64). member s k) c.into_iter-code-iterator.ensures.into_iter_gives ∙ c.intersection-code-items.ensures k ∙ in_span (member c.args.codes k) _ k first (omega arith) (rw n.0 at (c.span.ensures k)) in
+    record {
+      left = λ k h. sym (is k) ∙ h;
+      passed = nothing_more 2 _ _ (λ k. all_left _ _ (is k));
+    }
+
+pub loop-code-preserved : goal.loop-code-preserved
+loop-code-preserved c =
+    let first = 10 * number_of c.args.colour in
+    let l = c.loop-code.invariant in
+    let s = c.in-Some.ensures.steps in
+    let n = c.in-Some.code in
+    let all = codes_of_colour c.args.codes c.args.colour in
+    let h = l.left n s.least.has in
+    let b = in_colour (member c.args.codes n) n first h in
+    let f = c.number-first.ensures.0 in
+    let e : first + (n - 10 * c.number-first.result) ≡ n = omega arith in
+    record {
+      left = λ k x. l.left k ((and_parts _ _ (sym (s.others k) ∙ x)).0);
+      passed = more_like 2 _ _ _ _
+          (λ k. ap (λ v. (all k && not (member c.loop-code.code-iterator.left k)) || v) (codes_of_tile_lem c.args.colour (n - 10 * c.number-first.result) k (omega arith) ∙ ap (λ v. eqb k v) e)
+          ∙ one_passed (all k) _ (eqb k n) (λ x. ap all (true-eqb k n (sym x)) ∙ h)
+          ∙ ap (λ v. all k && not v) (sym (s.others k)))
+          (more_more 2 _ _ _ _ _ l.passed c.in_ok-push_tile.ensures);
+    }
+
+pub overflow_sub-code : goal.overflow_sub-code
+overflow_sub-code c =
+    let b = in_colour (member c.args.codes c.in-Some.code) c.in-Some.code _ (c.loop-code.invariant.left c.in-Some.code c.in-Some.ensures.steps.least.has) in
+    let f = c.number-first.ensures.0 in
+    omega arith
 
 pub returns : goal.returns
-returns c =
-    let e : c.loop-face.face ≡ 10 = omega arith in
-    subst (λ (n : ℕ). SpellsMore 2 (vec_items c.args.body.now) (vec_items c.loop-face.body) (λ k. member c.args.codes k && (leb (10 * number_of c.args.colour) k && ltb k (10 * number_of c.args.colour + n)))) e c.loop-face.invariant
+returns c = more_like 2 _ _ _ _ (λ k. none_left _ _ (c.in-None.ensures.steps.0 k)) c.loop-code.invariant.passed

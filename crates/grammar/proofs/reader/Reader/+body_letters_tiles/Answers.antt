@@ -1,16 +1,15 @@
 -- A letter, a range or a tile, and the rest of the body; or where that stops.
-use Rattle.std.proofs.Common.{◌≡◌, ◌+◌, ◌||◌, None, sym, refl, ap, ◌∙◌, subst, arith, true-eqb, false-eqb}
+use Rattle.std.proofs.Common.{◌≡◌, ◌+◌, None, sym, refl, ◌∙◌, subst, arith, true-eqb, false-eqb}
 use mathlib.Core.Path.{fun_ext}
-use Rattle.bits.specs.Members.{member}
-use Rattle.grammar.specs.Codes.{Letter, codes_of_letter, codes_of_range, joined_codes, no_codes}
-use Rattle.grammar.specs.Grammar.{byte, back_of, Body, nothing, one, range, tiles}
+use Rattle.grammar.specs.Codes.{no_codes}
+use Rattle.grammar.specs.Grammar.{byte, Body, nothing, one, range, tiles}
 use Rattle.grammar.specs.Nodes.{spelled}
 use Rattle.grammar.proofs.Exits.{exit}
 use Rattle.grammar.proofs.Texts.{within}
-use Rattle.grammar.proofs.Spelling.{some_letters, pair_is, back_here, back_later}
+use Rattle.grammar.proofs.Spelling.{pair_is}
 use Rattle.grammar.proofs.ClassStops.{body_stops_first, body_stops_after_letter, body_stops_at_high, body_stops_after_range, body_stops_in_tile, body_stops_after_tile}
 use Rattle.grammar.proofs.reader.Reader.+body_letters_tiles.Goals as goal
-use Rattle.grammar.proofs.reader.Reader.+body_letters_tiles.Goals.{letters-then-to-from, letters-else-to-from, letters-in_default-to-via-then-to-lt97, letters-in_default-to-via-else-to-lt97+else-to-lt123}
+use Rattle.grammar.proofs.reader.Reader.+body_letters_tiles.Goals.{letters-in_default-to-via-then-to-lt97, letters-in_default-to-via-else-to-lt97+else-to-lt123}
 
 pub body-returns-in_default : goal.body-returns-in_default
 body-returns-in_default t c =
@@ -49,18 +48,11 @@ letters-returns-in_err-rest t c =
 
 pub letters-returns-then-not-next_is : goal.letters-returns-then-not-next_is
 letters-returns-then-not-next_is t c =
-    let s = c.args.self.now.text.now in
-    let i = c.args.at in
-    let u = c.args.self.now.unit in
-    let k = c.in_ok-rest in
-    let h = k.ensures in
-    let d = one c.requires.0 c.requires.1 c.requires.2 h.derives in
-    let m : joined_codes (codes_of_letter c.args.from) (member k.rest) ≡ member c.union.result =
-    fun_ext (λ v. ap (λ f. f v || member k.rest v) (sym c.letter_codes.ensures) ∙ sym (c.union.ensures v)) in
+    let h = c.in_ok-rest.ensures in
     record {
       ahead = omega (arith, h.ahead);
       inside = h.inside;
-      derives = subst (λ x. Body u s i k.p x) (pair_is m refl) d;
+      derives = rw (c.after.ensures, c.letter_codes.ensures) (one c.requires.0 c.requires.1 c.requires.2 h.derives);
       after = h.after;
     }
 
@@ -81,27 +73,16 @@ letters-returns-in_err-rest-in-97-to-122 t c =
     let f = c.in-Some.ensures.1 in
     exit spelled i (body_stops_after_range {s = s} c.requires.0 (rw c.requires.1 c.requires.2) x (omega arith, omega arith)) c.from_residual-in_err-rest-in-97-to-122.result c.in_err-rest-in-97-to-122.field-0.0 c.from_residual-in_err-rest-in-97-to-122.ensures.1 c.in_err-rest-in-97-to-122.ensures
 
-pub letters-returns-after-to-from : goal.letters-returns-after-to-from
-letters-returns-after-to-from t c =
+pub letters-returns-in_ok-rest-in-97-to-122 : goal.letters-returns-in_ok-rest-in-97-to-122
+letters-returns-in_ok-rest-in-97-to-122 t c =
     let s = c.args.self.now.text.now in
     let i = c.args.at in
-    let u = c.args.self.now.unit in
-    let from = c.args.from in
-    let to = c.in-Some.to in
-    let k = c.in_ok-rest-in-97-to-122 in
-    let f = c.in-Some.ensures.1 in
+    let h = c.in_ok-rest-in-97-to-122.ensures in
     let x : byte s (i + 1) ≡ 45 = true-eqb _ _ (sym c.if-not-next_is.false ∙ c.next_is.ensures) in
-    let y : Letter to = (omega arith, omega arith) in
-    let h = k.ensures in
-    let d = range c.requires.0 c.requires.1 c.requires.2 x f y h.derives in
-    let b : c.if-to-from.back ≡ back_of i from to k.back =
-    elim c.if-to-from.branch [ letters-then-to-from w ↦ w.back-is ∙ sym (back_here i from to k.back w.if-to-from.true) | letters-else-to-from w ↦ w.back-is ∙ sym (back_later i from to k.back w.if-to-from.false) ] in
-    let m : joined_codes (codes_of_range from to) (member k.rest) ≡ member c.union-in-97-to-122.result =
-    fun_ext (λ v. ap (λ z. z || member k.rest v) (sym (c.span.ensures v ∙ some_letters from to v c.requires.2 y)) ∙ sym (c.union-in-97-to-122.ensures v)) in
     record {
       ahead = omega (arith, h.ahead);
       inside = h.inside;
-      derives = subst (λ z. Body u s i k.p z) (pair_is m (sym b)) d;
+      derives = rw c.after_range.ensures (range c.requires.0 c.requires.1 c.requires.2 x c.in-Some.ensures.1 (omega arith, omega arith) h.derives);
       after = h.after;
     }
 
@@ -123,16 +104,11 @@ tiles-returns-in_err-rest t c =
 
 pub tiles-returns : goal.tiles-returns
 tiles-returns t c =
-    let s = c.args.self.now.text.now in
-    let i = c.args.at in
-    let u = c.args.self.now.unit in
     let a = c.in_ok-first.ensures in
-    let k = c.in_ok-rest in
-    let h = k.ensures in
-    let d = tiles c.requires.0 a.derives h.derives in
+    let h = c.in_ok-rest.ensures in
     record {
       ahead = omega (arith, a.ahead, h.ahead);
       inside = h.inside;
-      derives = subst (λ x. Body u s i k.p x) (pair_is (fun_ext (λ v. sym (c.union.ensures v))) refl) d;
+      derives = rw c.after.ensures (tiles c.requires.0 a.derives h.derives);
       after = h.after;
     }
