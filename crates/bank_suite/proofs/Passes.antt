@@ -1,20 +1,11 @@
 -- What the first pass from the start leaves.
-use Rattle.std.proofs.Common.{◌≡◌, ℕ, ◌+◌, ◌-◌, ◌≤◌, Bool, false, ◌&&◌, ◌||◌, eqb, leb, Ok, Err, Result, sym, ap, ◌∙◌, arith}
-use Rattle.std.proofs.lemmas.Bool.{leb-true}
-use Rattle.std.proofs.lemmas.Bool.Decides.{nat_tests, same_from_decides}
+use Rattle.std.proofs.Common.{◌≡◌, ℕ, ◌+◌, ◌-◌, Bool, false, ◌&&◌, ◌||◌, eqb, leb, Ok, Err, Result, ap, ◌∙◌, arith}
+use Rattle.std.proofs.lemmas.Bool.Decides.{nat_tests}
 use Rattle.refusals.specs.declared.Refusal.{Refusal}
 use Rattle.banks.specs.Pairs.{none, only, moved, within, ◌∩◌}
-use Rattle.banks.specs.Meaning.{Meaning, Started, Looked, grown}
-use Rattle.banks.specs.Raises.{raise_by}
-use Rattle.banks.specs.declared.Raise.{Raise}
-use Rattle.banks.specs.declared.Raise.TheVariants.{Nothing, One}
+use Rattle.banks.specs.Meaning.{Meaning, Started, grown}
 use Rattle.banks.proofs.Sets.{same_pairs, at_pair}
 use Rattle.bank_suite.specs.Pass.{Passed, Begun}
-
--- a count is raised by at most one
-pub raise_le : (raise : Raise) → raise_by raise ≤ 1
-raise_le Nothing = omega arith
-raise_le One = omega arith
 
 -- of (0, 1) alone, (q, 1 + n) is moved
 only_there : (back front : Bool) (ws w p q n i : ℕ) → back ≡ false → front ≡ eqb (i - n) 1 → ws ≡ w
@@ -45,11 +36,3 @@ module _ {B : Type 0} (m : Meaning B) (ws : ℕ → ℕ) (q n : ℕ) (b : B) (s 
     holds_start = (p.keeps.same_holds (only 0 1)).0 s.holds_start;
     answered = (p.answered.0, p.answered.2 ∙ s.front_is);
   }
-
--- whether (q, 1 + n) arrived
-pub arrived : {B : Type 0} (m : Meaning B) (ws : ℕ → ℕ) (q n : ℕ) (b : B) (r : Bool) → n ≤ 1 → m.front b ≡ (only q (1 + n) ∩ within ws) → Looked m q 1 2 b r
-    → r ≡ leb (1 + n) (ws q)
-arrived m ws q n b r l front look = same_from_decides r (leb (1 + n) (ws q)) look (
-  (λ t. (1 + n, omega arith, omega arith, at_pair (m.front b) (only q (1 + n) ∩ within ws) front q (1 + n) ∙ (let u = leb-true (1 + n) (ws q) t in grind (arith, nat_tests)))),
-  (λ x. let e = sym (at_pair (m.front b) (only q (1 + n) ∩ within ws) front q x.0) ∙ x.3 in grind (arith, nat_tests)),
-)

@@ -56,8 +56,6 @@ pub fn first_pass<B: Bank>(plan: &Widths, q: usize, raise: Raise) -> Result<bool
     ensures { MatchResult result (λ stands. stands ≡ nat_le (1 + raise_by raise) (width_of plan.now q)) (λ e. e ≡ Full) }
 {
     let mut bank = B::new();
-    match start_and_pass(&mut bank, plan, q, raise) {
-        Ok(()) => Ok(bank.look(q, 1, 2)),
-        Err(refusal) => Err(refusal),
-    }
+    start_and_pass(&mut bank, plan, q, raise)?;
+    Ok(bank.look(q, 1, 2))
 }

@@ -30,11 +30,7 @@ enum Call {
 
 /// Adds the counts 1 to n at p, and tells whether none was refused.
 fn fills<B: Bank>(bank: &mut B, p: usize, n: u16) -> bool {
-    let mut taken = true;
-    for i in 1..=n {
-        taken = taken && bank.add(p, i).is_ok();
-    }
-    taken
+    (1..=n).all(|i| bank.add(p, i).is_ok())
 }
 
 /// Whether a call answers what it must.
@@ -65,49 +61,32 @@ fn answers<B: Bank>(bank: &mut B, call: Call) -> bool {
 /// The start, rows of 63, 64, 65, 128 and 1,000 counts at places 1 to 5, two places of width 1, one of 2, and one more of 1,000.
 fn plan() -> Option<Widths> {
     let mut widths = [0; 65];
-    widths[0] = 1;
-    widths[1] = 63;
-    widths[2] = 64;
-    widths[3] = 65;
-    widths[4] = 128;
-    widths[5] = 1000;
-    widths[6] = 1;
-    widths[7] = 1;
-    widths[8] = 2;
-    widths[9] = 1000;
+    widths[..10].copy_from_slice(&[1, 63, 64, 65, 128, 1000, 1, 1, 2, 1000]);
     Widths::of(&widths)
 }
 
 /// Whether all calls answer what they must, from the start of a new bank.
 fn all_answer<B: Bank>(calls: &[Call]) -> bool {
+    let Some(widths) = plan() else {
+        return false;
+    };
     let mut bank = B::new();
-    match plan() {
-        Some(widths) => bank.start(&widths),
-        None => return false,
-    }
-    let mut right = true;
-    for call in calls {
-        right = right && answers(&mut bank, *call);
-    }
-    right
+    bank.start(&widths);
+    calls.iter().all(|call| answers(&mut bank, *call))
 }
 
-/// Whether they do at every bank.
+/// All calls answer what they must at this bank.
+fn at<B: Bank>(rt: &impl Abort, bank: &str, calls: &[Call]) {
+    assert!(rt; all_answer::<B>(calls), "{bank}");
+}
+
+/// They do at every bank.
 fn at_every_bank(rt: &impl Abort, calls: &[Call]) {
-    assert!(rt; all_answer::<BitBank>(calls), "bit bank");
-    assert!(rt; all_answer::<ListBank>(calls), "list bank");
-    assert!(rt;
-        all_answer::<MaskLayer<BitBank>>(calls),
-        "mask layer over the bit bank"
-    );
-    assert!(rt;
-        all_answer::<MaskLayer<ListBank>>(calls),
-        "mask layer over the list bank"
-    );
-    assert!(rt;
-        all_answer::<MaskLayer<MaskLayer<ListBank>>>(calls),
-        "mask layer over a mask layer"
-    );
+    at::<BitBank>(rt, "bit bank", calls);
+    at::<ListBank>(rt, "list bank", calls);
+    at::<MaskLayer<BitBank>>(rt, "mask layer over the bit bank", calls);
+    at::<MaskLayer<ListBank>>(rt, "mask layer over the list bank", calls);
+    at::<MaskLayer<MaskLayer<ListBank>>>(rt, "mask layer over a mask layer", calls);
 }
 
 const MOST: u16 = u16::MAX;
@@ -163,11 +142,9 @@ fn row(rt: &impl Abort, p: usize, width: u16) {
 
 #[test]
 fn rows(rt: HostRuntime) {
-    row(&rt, 1, 63);
-    row(&rt, 2, 64);
-    row(&rt, 3, 65);
-    row(&rt, 4, 128);
-    row(&rt, 5, 1000);
+    for (p, width) in [(1, 63), (2, 64), (3, 65), (4, 128), (5, 1000)] {
+        row(&rt, p, width);
+    }
 }
 
 /// Between places of different widths, what does not fit into the row of q is left out.
@@ -273,8 +250,10 @@ fn dropped(rt: HostRuntime) {
 /// The list bank holds 256 pairs and refuses the 257th, with the back as it was.
 #[test]
 fn list_bank_full(rt: HostRuntime) {
-    assert!(rt;
-        all_answer::<ListBank>(&[
+    at::<ListBank>(
+        &rt,
+        "list bank",
+        &[
             Call::Fill(5, 256),
             Call::AddFull(5, 257),
             Call::AddFull(6, 1),
@@ -292,15 +271,17 @@ fn list_bank_full(rt: HostRuntime) {
             Call::Found(9, 1000, 1000),
             Call::Missing(9, 0, 999),
             Call::Found(8, 2, 2),
-        ],)
+        ],
     );
 }
 
 /// A mask layer over it holds more: pairs at places of width 1 need no room there.
 #[test]
 fn mask_holds_more(rt: HostRuntime) {
-    assert!(rt;
-        all_answer::<MaskLayer<ListBank>>(&[
+    at::<MaskLayer<ListBank>>(
+        &rt,
+        "mask layer over the list bank",
+        &[
             Call::Fill(5, 256),
             Call::Add(0, 1),
             Call::Add(6, 1),
@@ -312,7 +293,7 @@ fn mask_holds_more(rt: HostRuntime) {
             Call::Found(7, 1, 1),
             Call::Found(5, 256, 256),
             Call::Missing(8, 0, MOST),
-        ],)
+        ],
     );
 }
 
@@ -331,8 +312,8 @@ fn bit_bank_holds_all(rt: HostRuntime) {
         Call::Found(9, 65, 65),
         Call::Found(9, 1000, 1000),
     ];
-    assert!(rt; all_answer::<BitBank>(&calls));
-    assert!(rt; all_answer::<MaskLayer<BitBank>>(&calls));
+    at::<BitBank>(&rt, "bit bank", &calls);
+    at::<MaskLayer<BitBank>>(&rt, "mask layer over the bit bank", &calls);
 }
 
 /// Whether a new bank has nothing, and takes nothing in, since it has no widths.

@@ -27,6 +27,7 @@ pub record Before (l : PairList) (k p i : ℕ) : Type 0 where
 
 -- the pair at k is the first that is not before (p, i): those below k come before it, and those from k on do not
 pub record First (l : PairList) (k p i : ℕ) : Type 0 where
+  pub bound : k ≤ length l.pairs.items
   pub below : (m : ℕ) → m < k → rank (slice_index_or l.pairs.items m (0, 0)) < rank (p, i)
   pub from : (m : ℕ) → k ≤ m → m < length l.pairs.items → rank (p, i) ≤ rank (slice_index_or l.pairs.items m (0, 0))
 

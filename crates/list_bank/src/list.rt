@@ -41,19 +41,25 @@ impl PairList {
         let _fits = self.pairs.try_extend_from_slice(&other.pairs);
     }
 
+    /// Where the first pair is that does not come before (p, i).
+    // By the last pair first, since most pairs come in order.
+    pub(crate) fn first(&self, p: u8, i: u16) -> usize
+        ensures { First self.now result p i }
+    {
+        match self.pairs.last() {
+            Some(last) if *last >= (p, i) => self.pairs.partition_point(|x| *x < (p, i)),
+            _ => self.pairs.len(),
+        }
+    }
+
     /// Where (p, i) is, or as an error where it would be.
     pub(crate) fn find(&self, p: u8, i: u16) -> Result<usize, usize>
         ensures { MatchResult result (λ k. At self.now k p i) (λ k. Before self.now k p i) }
     {
-        self.pairs.binary_search(&(p, i))
-    }
-
-    /// Where the first pair is that does not come before (p, i).
-    pub(crate) fn first(&self, p: u8, i: u16) -> usize
-        ensures { First self.now result p i }
-    {
-        match self.find(p, i) {
-            Ok(k) | Err(k) => k,
+        let k = self.first(p, i);
+        match self.pairs.get(k) {
+            Some(x) if *x == (p, i) => Ok(k),
+            _ => Err(k),
         }
     }
 
