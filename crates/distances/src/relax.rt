@@ -19,7 +19,7 @@ impl Graph<'_> {
     }
 
     // One more than the mark of (q, j), where the way there is free and that is better than `r`; else `r`.
-    // A mark of 0 is none here too, as in the area: with an `Option` in its place a need of long patterns takes a tenth longer.
+    // A mark of 0 is none here too, as in the area: with an `Option` in its place the need of a long pattern takes a sixth longer.
     fn through(&self, area: &[u16; 4096], free: bool, q: usize, j: u16, r: u16) -> u16
         requires place { q ≤ self.now.table.now.places }
         requires count { 1 ≤ j }

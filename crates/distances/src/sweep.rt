@@ -19,10 +19,7 @@ impl Graph<'_> {
     fn tallest(&self, lo: usize, end: usize) -> u16
         ensures { (p : ℕ) → lo ≤ p → p < end → width_in self.now p ≤ result }
     {
-        (lo..end)
-            .map(|p| self.layout.width(p))
-            .max()
-            .unwrap_or(0)
+        (lo..end).map(|p| self.layout.width(p)).max().unwrap_or(0)
     }
 
     // Relaxes the count i at the places from `lo` up to `end`, the last place first.
