@@ -26,11 +26,11 @@ chunk_mark w m more p i full = elim (cases_Bool (leb 1 i && leb i (width_of w p)
 ]
 
 pub measured :
-    (g : Graph) (old zeros new : List ℕ) → widths_of g.layout ≡ g.table.widths → ((k : ℕ) → k < 4096 → get_or zeros k 0 ≡ 0)
-    → AllSettled g zeros new → Measured g.table old (new ++ drop 4096 old)
+    (g : Graph) (old zeros new : List ℕ) → widths_of g.layout ≡ g.table.now.widths → ((k : ℕ) → k < 4096 → get_or zeros k 0 ≡ 0)
+    → AllSettled g zeros new → Measured g.table.now old (new ++ drop 4096 old)
 measured g old zeros new same zero s = let full = s.long in record {
   labels = λ e formed of.
-      subst (λ (l : ℕ → ℕ → ℕ). Labelled e l) (fun_ext (λ p. fun_ext (λ i. chunk_mark g.table.widths new (drop 4096 old) p i full)))
+      subst (λ (l : ℕ → ℕ → ℕ). Labelled e l) (fun_ext (λ p. fun_ext (λ i. chunk_mark g.table.now.widths new (drop 4096 old) p i full)))
       (labels_met e formed g of same new (omega arith) s.ground s.settled);
   spare = λ k h b.
       get_or_append_left new (drop 4096 old) 0 k (omega arith) ∙ s.behind k (subst (λ (w : Widths). base_of w 65 ≤ k) (sym same) h) ∙ zero k b;

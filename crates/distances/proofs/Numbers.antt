@@ -14,7 +14,7 @@ total_room w = let h = base_room w 65 in omega arith
 -- a pair's mark stands before the end of the last place's
 pub number_inner : (g : Graph) (p i : ℕ) → Pair g p i → number_in g p i < base_of (widths_of g.layout) 65
 number_inner g p i d =
-    let few = g.table.few in
+    let few = g.table.now.few in
     let d0 = d.0 in
     let d1 = d.1 in
     let d2 = d.2 in

@@ -22,10 +22,10 @@ module _ (g : Graph) (area : List ℕ) (p i : ℕ) (d : Pair g p i) where
       let one = k.1 in
       let upto = k.0.0 in
       let back : (a - 1) + 1 ≡ a = omega arith in
-      let same : links_of g.table p ((a - 1) + 1) ≡ links_of g.table p a = ap (links_of g.table p) back in
+      let same : links_of g.table.now p ((a - 1) + 1) ≡ links_of g.table.now p a = ap (links_of g.table.now p) back in
       let x = g.exact p (a - 1) d.0 in
-      let within : a - 1 < g.table.places = omega arith in
-      let e : links_of g.table p ((a - 1) + 1) ≡ 0 = grind (arith, nat_tests) in
+      let within : a - 1 < g.table.now.places = omega arith in
+      let e : links_of g.table.now p ((a - 1) + 1) ≡ 0 = grind (arith, nat_tests) in
       no_links g p i a b (sym same ∙ e) k
 
   pub better_first : (left : Set64) → left ≡ get_or g.targets p no_set → Better (mark_in g area) (Passed g p i left) 0 0

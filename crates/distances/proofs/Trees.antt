@@ -30,19 +30,19 @@ pub mark_at_lem : (w : Widths) (l : List ℕ) (p i : ℕ) → 1 ≤ i → i ≤ 
 mark_at_lem w l p i a b = let t : (leb 1 i && leb i (width_of w p)) ≡ true = grind (arith, nat_tests) in ap (λ (x : Bool). cond x (get_or l (base_of w p + (i - 1)) 0) 0) t
 
 -- the test of an accepting pair, in parts
-accepting_parts : (g : Graph) (p i : ℕ) → Decides (accepting g p i) (((p ≡ 0) × (g.table.nullable ≡ true)) ⊎ ((has_place g.table.lasts p ≡ true) × (low_of g.table p ≤ i)))
+accepting_parts : (g : Graph) (p i : ℕ) → Decides (accepting g p i) (((p ≡ 0) × (g.table.now.nullable ≡ true)) ⊎ ((has_place g.table.now.lasts p ≡ true) × (low_of g.table.now p ≤ i)))
 accepting_parts g p i =
-    Decides-or (eqb p 0 && g.table.nullable) (has_place g.table.lasts p && leb (low_of g.table p) i)
-    (Decides-and (eqb p 0) g.table.nullable (Decides-eqb p 0) (λ x. x, λ x. x))
-    (Decides-and (has_place g.table.lasts p) (leb (low_of g.table p) i) (λ x. x, λ x. x) (λ x. grind (arith, nat_tests), λ x. grind (arith, nat_tests)))
+    Decides-or (eqb p 0 && g.table.now.nullable) (has_place g.table.now.lasts p && leb (low_of g.table.now p) i)
+    (Decides-and (eqb p 0) g.table.now.nullable (Decides-eqb p 0) (λ x. x, λ x. x))
+    (Decides-and (has_place g.table.now.lasts p) (leb (low_of g.table.now p) i) (λ x. x, λ x. x) (λ x. grind (arith, nat_tests), λ x. grind (arith, nat_tests)))
 
-module _ (e : Tree) (formed : WellFormed e) (g : Graph) (of : TableOf e g.table) (same : widths_of g.layout ≡ g.table.widths) where
+module _ (e : Tree) (formed : WellFormed e) (g : Graph) (of : TableOf e g.table.now) (same : widths_of g.layout ≡ g.table.now.widths) where
   width_is : (p : ℕ) → p ≤ size e → width_in g p ≡ width e 0 p
   width_is p h =
       let t : leb p (size e) ≡ true = grind (arith, nat_tests) in
       ap (λ (w : Widths). width_of w p) same ∙ of.widths p ∙ ap (λ (x : Bool). cond x (width e 0 p) 0) t
 
-  low_is : (p : ℕ) → p ≤ size e → low_of g.table p ≡ low e 0 p
+  low_is : (p : ℕ) → p ≤ size e → low_of g.table.now p ≡ low e 0 p
   low_is p h =
       let t : leb p (size e) ≡ true = grind (arith, nat_tests) in
       of.lows p ∙ ap (λ (x : Bool). cond x (low e 0 p) 0) t
@@ -87,7 +87,7 @@ module _ (e : Tree) (formed : WellFormed e) (g : Graph) (of : TableOf e g.table)
   accept_to : (p i : ℕ) → Inside e p i → accepting g p i ≡ true → Accepts e p i
   accept_to p i f a = go ((accepting_parts g p i).0 a)
     where
-      go : ((p ≡ 0) × (g.table.nullable ≡ true)) ⊎ ((has_place g.table.lasts p ≡ true) × (low_of g.table p ≤ i)) → Accepts e p i
+      go : ((p ≡ 0) × (g.table.now.nullable ≡ true)) ⊎ ((has_place g.table.now.lasts p ≡ true) × (low_of g.table.now p ≤ i)) → Accepts e p i
       go (inl (z, n)) =
           let o = (start_bounds e).1 in
           let v : width e 0 p ≡ width e 0 0 = ap (width e 0) z in
@@ -99,22 +99,22 @@ module _ (e : Tree) (formed : WellFormed e) (g : Graph) (of : TableOf e g.table)
   accept_of : (p i : ℕ) → Inside e p i → Accepts e p i → accepting g p i ≡ true
   accept_of p i f a = (accepting_parts g p i).1 (go a)
     where
-      go : Accepts e p i → ((p ≡ 0) × (g.table.nullable ≡ true)) ⊎ ((has_place g.table.lasts p ≡ true) × (low_of g.table p ≤ i))
+      go : Accepts e p i → ((p ≡ 0) × (g.table.now.nullable ≡ true)) ⊎ ((has_place g.table.now.lasts p ≡ true) × (low_of g.table.now p ≤ i))
       go (inl (z, o, n)) = inl (z, of.null ∙ holds_true (nullable e) n)
       go (inr (l, h)) = let w = low_is p f.0 in inr ((of.lasts p).1 l, omega arith)
 
   module _ (l : List ℕ) (long : 4096 ≤ length l) (ground : Ground g l) (settled : (p i : ℕ) → Pair g p i → Settled g l p i) where
-    mark_is : (p i : ℕ) → Pair g p i → mark_at g.table.widths l p i ≡ mark_in g l p i
+    mark_is : (p i : ℕ) → Pair g p i → mark_at g.table.now.widths l p i ≡ mark_in g l p i
     mark_is p i d = ap (λ (w : Widths). mark_at w l p i) (sym same) ∙ mark_at_lem (widths_of g.layout) l p i d.1 d.2
 
-    labels_leads : (p i k : ℕ) → Inside e p i → mark_at g.table.widths l p i ≡ suc (suc k) → (q : ℕ) × (j : ℕ) × TreeLink e p i q j × (mark_at g.table.widths l q j ≡ suc k)
+    labels_leads : (p i k : ℕ) → Inside e p i → mark_at g.table.now.widths l p i ≡ suc (suc k) → (q : ℕ) × (j : ℕ) × TreeLink e p i q j × (mark_at g.table.now.widths l q j ≡ suc k)
     labels_leads p i k f is =
         let d = inside_pair p i f in
         let (q, j, s, m) = mark_steps g l long ground settled p i k d (sym (mark_is p i d) ∙ is) in
         (q, j, link_to p i q j f s, mark_is q j s.0 ∙ m)
 
-    labels_linked : (p i q j k : ℕ) → Inside e p i → TreeLink e p i q j → mark_at g.table.widths l q j ≡ suc k
-        → (1 ≤ mark_at g.table.widths l p i) × (mark_at g.table.widths l p i ≤ suc (suc k))
+    labels_linked : (p i q j k : ℕ) → Inside e p i → TreeLink e p i q j → mark_at g.table.now.widths l q j ≡ suc k
+        → (1 ≤ mark_at g.table.now.widths l p i) × (mark_at g.table.now.widths l p i ≤ suc (suc k))
     labels_linked p i q j k f s is =
         let d = inside_pair p i f in
         let s' = link_of p i q j f s in
@@ -127,7 +127,7 @@ module _ (e : Tree) (formed : WellFormed e) (g : Graph) (of : TableOf e g.table)
         (omega arith, omega arith)
 
     -- settled marks meet the local facts of distances
-    pub labels_met : Labelled e (mark_at g.table.widths l)
+    pub labels_met : Labelled e (mark_at g.table.now.widths l)
     labels_met = record {
       accepts = λ p i f is. let d = inside_pair p i f in accept_to p i f (ground.one p i d (sym (mark_is p i d) ∙ is));
       leads = labels_leads;

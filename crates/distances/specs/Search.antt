@@ -1,13 +1,8 @@
 -- What the search keeps true of the marks while it lowers them.
-use Rattle.std.specs.Prelude.{◌≡◌, ℕ, ◌+◌, ◌<◌, ◌≤◌, Bool, true, false, cond, ◌⊎◌, List, [], ◌∷◌, ◌==◌, length, slice_index, Option, Some, None}
+use Rattle.std.specs.Prelude.{◌≡◌, ℕ, ◌+◌, ◌<◌, ◌≤◌, Bool, true, false, cond, ◌⊎◌, List, [], ◌∷◌, ◌==◌, length, slice_index}
 use Rattle.widths.specs.Width.{widths_of, base_of}
 use Rattle.distances.specs.declared.graph.Graph.{Graph}
 use Rattle.distances.specs.Graphs.{Pair, Leads, accepting, mark_in}
-
--- A distance as a mark: one more, and 0 where there is none.
-abbrev pub marked : Option ℕ → ℕ
-marked None = 0
-marked (Some d) = d + 1
 
 -- t is r, or one more than the mark of a pair of S; and it is no worse than r or what a pair of S allows. M is the marks, and 0 is worst.
 pub record Better (M : ℕ → ℕ → ℕ) (S : ℕ → ℕ → Type 0) (r t : ℕ) : Type 0 where

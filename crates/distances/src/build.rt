@@ -35,14 +35,14 @@ fn all_targets(table: &Table) -> [Set64; 65]
 }
 
 // The graph of a table.
-pub(crate) fn graph_of(table: &Table) -> Graph
-    ensures table { result.table ≡ table.now }
+pub(crate) fn graph_of(table: &Table) -> Graph<'_>
+    ensures table { result.table.now ≡ table.now }
     ensures widths { widths_of result.layout ≡ table.now.widths }
 {
     let layout = Layout::of(&table.widths());
     let targets = all_targets(table);
     Graph {
-        table: *table,
+        table,
         layout,
         targets,
     }

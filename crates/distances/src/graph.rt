@@ -10,13 +10,13 @@ use widths::Layout;
 // The places of a pattern and their links, with the layout of the marks of its pairs. The targets of a place are the places that links
 // lead to from there; k stands for the place k + 1, since no link leads to the start.
 #[derive(Clone, Copy)]
-pub(crate) struct Graph {
-    pub(crate) table: Table,
+pub(crate) struct Graph<'a> {
+    pub(crate) table: &'a Table,
     pub(crate) layout: Layout,
     pub(crate) targets: [Set64; 65],
     ghost full: { length targets ≡ 65 },
-    ghost exact: { (p k : ℕ) → p ≤ table.places → member (slice_index_or targets p no_set) k ≡ (nat_lt k table.places && not (links_of table p (k + 1) == 0)) },
+    ghost exact: { (p k : ℕ) → p ≤ table.now.places → member (slice_index_or targets p no_set) k ≡ (nat_lt k table.now.places && not (links_of table.now p (k + 1) == 0)) },
 }
 
 // No distance passes this: there are at most 4,096 pairs, so no shortest path has more than 4,095 links.
-pub(crate) const MOST: u16 = 4096;
+pub(crate) const MOST: u16 = 4097;

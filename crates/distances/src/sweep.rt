@@ -5,7 +5,7 @@ ghost use Rattle.distances.specs.Search.{AllSettled, Ground, Sweeps};
 use crate::graph::Graph;
 use tables::Link;
 
-impl Graph {
+impl Graph<'_> {
     // The first place of the block that ends with the place `last`: the first that a next link leads to from there, else `last`.
     fn block(&self, last: usize) -> usize
         ensures { result ≤ last }
@@ -19,16 +19,13 @@ impl Graph {
     fn tallest(&self, lo: usize, end: usize) -> u16
         ensures { (p : ℕ) → lo ≤ p → p < end → width_in self.now p ≤ result }
     {
-        (lo..end)
-            .map(|p| self.layout.width(p))
-            .max()
-            .unwrap_or(0)
+        (lo..end).map(|p| self.layout.width(p)).max().unwrap_or(0)
     }
 
     // Relaxes the count i at the places from `lo` up to `end`, the last place first.
     fn sweep_count(&self, area: &mut [u16; 4096], lo: usize, end: usize, i: u16) -> bool
         requires order { lo ≤ end }
-        requires place { end ≤ self.now.table.places + 1 }
+        requires place { end ≤ self.now.table.now.places + 1 }
         requires count { 1 ≤ i }
         ensures { Sweeps self.now area.old area.new (λ a b. (lo ≤ a) × (a < end) × (b ≡ i)) result }
     {
@@ -42,7 +39,7 @@ impl Graph {
     // Relaxes the places from `lo` up to `end`, the highest count first.
     fn sweep_block(&self, area: &mut [u16; 4096], lo: usize, end: usize) -> bool
         requires order { lo ≤ end }
-        requires place { end ≤ self.now.table.places + 1 }
+        requires place { end ≤ self.now.table.now.places + 1 }
         ensures { Sweeps self.now area.old area.new (λ a b. (lo ≤ a) × (a < end)) result }
     {
         let mut moved = false;

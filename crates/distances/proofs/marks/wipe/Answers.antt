@@ -11,7 +11,7 @@ returns c =
     let e = c.min-end.result in
     let full : length new ≡ e = omega (arith, c.fill.ensures.len, length-take {A = ℕ}) in
     let rest : (k : ℕ) → e ≤ k → get_or (new ++ drop e old) k 0 ≡ get_or old k 0 = λ k h.
-        get_or-append_right new (drop e old) e k 0 full h ∙ get_or-drop e old (k - e) 0 ∙ ap (λ (j : ℕ). get_or old j 0) (omega arith) in
+    get_or-append_right new (drop e old) e k 0 full h ∙ get_or-drop e old (k - e) 0 ∙ ap (λ (j : ℕ). get_or old j 0) (omega arith) in
     record {
       zero = λ k h. ⊎_elim
           (λ (l : k < e). get_or_append_left new (drop e old) 0 k (omega arith) ∙ c.fill.ensures.clones k 0 (omega arith) refl)

@@ -20,7 +20,7 @@ returns-clause-answer c =
     let g = c.graph_of.result in
     let zeros = c.fill.new.self in
     let zero : (k : ℕ) → k < 4096 → get_or zeros k 0 ≡ 0 = λ k h. c.fill.ensures.clones k 0 (omega arith) refl in
-    let same : widths_of g.layout ≡ g.table.widths = c.graph_of.ensures.widths ∙ sym (ap (λ (t : Table). t.widths) c.graph_of.ensures.table) in (
+    let same : widths_of g.layout ≡ g.table.now.widths = c.graph_of.ensures.widths ∙ sym (ap (λ (t : Table). t.widths) c.graph_of.ensures.table) in (
       omega (arith, chunk),
       subst (λ (t : Table). Measured t c.args.area.now (c.settle.new.area ++ drop 4096 c.args.area.now)) c.graph_of.ensures.table
           (measured g c.args.area.now zeros c.settle.new.area same zero c.settle.ensures),

@@ -10,7 +10,7 @@ use Rattle.distances.proofs.graph.Graph.best.Goals as goal
 pub loop-k-init : goal.loop-k-init
 loop-k-init c =
     let g = c.args.self.now in
-    let few = g.table.few in
+    let few = g.table.now.few in
     let full = g.full in
     let upto = c.requires.0 in
     let is = c.into_iter-k-iterator.ensures.into_iter_gives ∙ get_or_default g.targets c.args.p c.index-self-p.result no_set (omega arith) in (

@@ -1,30 +1,25 @@
--- A better mark is written.
-use Rattle.std.proofs.lemmas.Grind.{common_steps}
-use Rattle.distances.specs.Search.{marked}
-use Rattle.std.proofs.Common.{ℕ, ap, sym, ◌∙◌, subst, ◌≡◌, ◌+◌, ◌<◌, ◌≤◌, ◌⊎◌, length, get_or, arith}
+-- A better mark is written, or there is none.
+use Rattle.std.proofs.Common.{◌≡◌, ◌<◌, ◌≤◌, true, ◌⊎◌, length, get_or, refl, inl, inr, ⊎_elim, arith}
 use Rattle.std.proofs.lemmas.Bool.{both_ways}
 use Rattle.distances.specs.Graphs.{Pair}
 use Rattle.distances.proofs.Writes.{write_ground, write_behind, write_falls}
 use Rattle.distances.proofs.graph.Graph.relax.Goals as goal
 
-pub returns-then-moves : goal.returns-then-moves
-returns-then-moves c = λ ground.
+pub returns-then-r-old : goal.returns-then-r-old
+returns-then-r-old c = λ ground.
     let g = c.args.self.now in
     let l = c.args.area.now in
     let p = c.args.p in
     let i = c.args.i in
-    let r = c.in-Some.due + 1 in
-    let k = c.number.result in
-    let at = c.number.ensures.value in
-    let b = c.in-Some.ensures in
+    let r = c.due-r.result in
+    let k = c.number-k.result in
     let d : Pair g p i = (c.requires.place, c.requires.count, omega arith) in
     let some : 1 ≤ r = omega arith in
     let long : 4096 ≤ length l = omega arith in
-    let told : (marked c.distance.result ≡ 0) ⊎ (r < marked c.distance.result) = grind (arith, common_steps) in
-    let better = subst (λ (v : ℕ). (v ≡ 0) ⊎ (r < v)) (c.distance.ensures ∙ ap (λ (n : ℕ). get_or l n 0) (sym at)) told in
+    let better : (get_or l k 0 ≡ 0) ⊎ (r < get_or l k 0) = ⊎_elim (λ a. inl a) (λ b. inr b.1) c.if-r-old.either in
     record {
-      ground = write_ground g l long p i r k d at ground b some better;
-      behind = write_behind g l long p i r k d at ground b;
-      falls = λ _. write_falls g l long p i r k d at ground b some better;
-      still = λ e. absurd (both_ways _ e c.if-moves.true);
+      ground = write_ground g l long p i r k d c.number-k.ensures.value ground c.due-r.ensures some better;
+      behind = write_behind g l long p i r k d c.number-k.ensures.value ground c.due-r.ensures;
+      falls = λ _. write_falls g l long p i r k d c.number-k.ensures.value ground c.due-r.ensures some better;
+      still = λ e. absurd (both_ways true e refl);
     }
