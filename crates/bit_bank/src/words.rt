@@ -15,7 +15,10 @@ pub(crate) fn clear(words: &mut [u64; 128], n: usize)
     requires room { n ≤ 128 }
     ensures { (a : ℕ) → bit_at words.new a ≡ (nat_le (64 * n) a && bit_at words.old a) }
 {
-    words[..n].fill(0);
+    // By a loop: `fill` writes the last word apart, which made each turn slower.
+    for word in words[..n].iter_mut() {
+        *word = 0;
+    }
 }
 
 /// Copies the first `n` words of `src`.
