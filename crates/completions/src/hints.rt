@@ -29,9 +29,12 @@ pub fn hint_of<B: Bank>(table: &Table, bank: &B, area: &mut [u16]) -> Result<u8,
     ensures short { length area.old < 4096 → result ≡ Err Work }
     ensures answer { FullArea area.old → Fresh B.means table.now bank.now → Right HintOf table.now (B.means.front bank.now) result }
 {
-    measured(table, bank, area, |marks: &Marks, found: Option<Found>|
-        ensures { Tells HintOf table.entry.now marks.now found result }
-    {
-        hint_from(table, marks, found)
-    })
+    measured(
+        table,
+        bank,
+        area,
+        |marks: &Marks, found: Option<Found>|
+            ensures { Tells HintOf table.entry.now marks.now found result }
+        { hint_from(table, marks, found) },
+    )
 }

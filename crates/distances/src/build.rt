@@ -28,8 +28,8 @@ fn all_targets(table: &Table) -> [Set64; 65]
     ensures each { (p k : ℕ) → p ≤ table.now.places → member (slice_index_or result p no_set) k ≡ (nat_lt k table.now.places && not (links_of table.now p (k + 1) == 0)) }
 {
     let mut targets = [Set64::empty(); 65];
-    for p in 0..table.places() + 1 {
-        targets[p] = targets_of(table, p);
+    for (p, target) in targets[..=table.places()].iter_mut().enumerate() {
+        *target = targets_of(table, p);
     }
     targets
 }

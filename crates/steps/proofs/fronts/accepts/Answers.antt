@@ -23,10 +23,10 @@ returns-else-look g c = λ fresh e table.
     let standing = fresh.stands in
     let leaves = (λ (p : ℕ). seen f p (low_of t p) (width_of t.widths p)) in
     let any : MatchBool c.any.result
-        ((k : ℕ) × (k < length (range_with_len 1 n)) × HoldsAt (λ p. (has_place t.lasts p ≡ true) × (leaves p ≡ true)) (range_with_len 1 n) k)
-        (AllWithin (λ p. has_place t.lasts p ≡ true → leaves p ≡ false) (range_with_len 1 n) 0 (length (range_with_len 1 n))) =
-        cases_from_any _ _ c.any.result (λ p. (has_place t.lasts p ≡ true) × (leaves p ≡ true)) (λ p. has_place t.lasts p ≡ true → leaves p ≡ false)
-        c.any.ensures.ran (YieldsList-from_range 1 (n + 1) n refl (omega arith)) (λ x q k. search rules) (λ x q k. search rules) in
+    ((k : ℕ) × (k < length (range_with_len 1 n)) × HoldsAt (λ p. (has_place t.lasts p ≡ true) × (leaves p ≡ true)) (range_with_len 1 n) k)
+    (AllWithin (λ p. has_place t.lasts p ≡ true → leaves p ≡ false) (range_with_len 1 n) 0 (length (range_with_len 1 n))) =
+    cases_from_any _ _ c.any.result (λ p. (has_place t.lasts p ≡ true) × (leaves p ≡ true)) (λ p. has_place t.lasts p ≡ true → leaves p ≡ false)
+    c.any.ensures.ran (YieldsList-from_range 1 (n + 1) n refl (omega arith)) (λ x q k. search rules) (λ x q k. search rules) in
     elim (cases_Bool c.any.result) [
       | inl found ↦
           let (k, inside, holds) = rw found at any in
@@ -35,11 +35,11 @@ returns-else-look g c = λ fresh e table.
       | inr missed ↦
           let none = rw missed at any in
           let lasts : (k : ℕ) → k < t.places + 1 → has_place t.lasts k ≡ true → leaves k ≡ false = λ k below last. ⊎_elim
-              (λ (z : k < 1). absurd (both_ways (has_place t.lasts k) (grind (arith, nat_tests)) last))
-              (λ (some : 1 ≤ k).
-              let is : get_or (range_with_len 1 n) (k - 1) 0 ≡ k = get_or-range_with_len 1 n (k - 1) 0 (omega (arith, c.places.ensures)) ∙ omega arith in
-              subst (λ (p : ℕ). has_place t.lasts p ≡ true → leaves p ≡ false) is (none (k - 1) 0 (omega arith) (omega (arith, c.places.ensures, length-range_with_len 1 n))) last)
-              (cases_lt k 1) in
+          (λ (z : k < 1). absurd (both_ways (has_place t.lasts k) (grind (arith, nat_tests)) last))
+          (λ (some : 1 ≤ k).
+          let is : get_or (range_with_len 1 n) (k - 1) 0 ≡ k = get_or-range_with_len 1 n (k - 1) 0 (omega (arith, c.places.ensures)) ∙ omega arith in
+          subst (λ (p : ℕ). has_place t.lasts p ≡ true → leaves p ≡ false) is (none (k - 1) 0 (omega arith) (omega (arith, c.places.ensures, length-range_with_len 1 n))) last)
+          (cases_lt k 1) in
           let start : t.nullable ≡ true → Seen f 0 1 1 → ⊥ = λ null. elim c.if-is_nullable.branch [
             | then-is_nullable w ↦ not_from_Decides w.look.result (w.look.ensures standing) (sym w.value-is ∙ c.if-look.false)
             | else-is_nullable w ↦ absurd (both_ways t.nullable (sym c.is_nullable.ensures ∙ w.if-is_nullable.false) null)
