@@ -100,6 +100,7 @@ impl Set64 {
     }
 
     /// Whether the two sets have the same members.
+    // Beside `==`: this promises equal members, where the derived call speaks of the words.
     pub fn equals(self, other: Set64) -> bool
         ensures { Decides result ((k : ℕ) → member self k ≡ member other k) }
     {

@@ -8,7 +8,7 @@ use grammar::{Node, Times};
 use refusals::Refusal;
 
 /// Counts the places, of which `seen` stand before: at most 64, or the refusal that tells where the 65th stands.
-pub fn count_places(n: &Node, seen: usize) -> Result<usize, Refusal>
+fn places_behind(n: &Node, seen: usize) -> Result<usize, Refusal>
     requires { seen ≤ 64 }
     ensures { UpTo64 seen (places_of (ast_of n.now)) result }
 {
@@ -21,9 +21,16 @@ pub fn count_places(n: &Node, seen: usize) -> Result<usize, Refusal>
                 Err(Refusal::Places(*at))
             }
         }
-        Node::Cat(a, b) | Node::Alt(a, b) => count_places(b, count_places(a, seen)?),
-        Node::Repeat(a, _) => count_places(a, seen),
+        Node::Cat(a, b) | Node::Alt(a, b) => places_behind(b, places_behind(a, seen)?),
+        Node::Repeat(a, _) => places_behind(a, seen),
     }
+}
+
+/// Counts the places: at most 64, or the refusal that tells where the 65th stands.
+pub fn count_places(n: &Node) -> Result<usize, Refusal>
+    ensures { UpTo64 0 (places_of (ast_of n.now)) result }
+{
+    places_behind(n, 0)
 }
 
 /// What is left of a budget once each place has taken its width: that of a counted repeat around the part, else a repeat's high inside

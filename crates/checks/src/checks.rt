@@ -11,6 +11,7 @@ use refusals::Refusal;
 pub fn check(n: &Node) -> Result<(), Refusal>
     ensures { Checked (ast_of n.now) result }
 {
+    // By `if let`: a search tells a place, and its refusal takes it; a helper for the four would need a closure for each and be no plainer.
     if let Some(p) = backward_range(n) {
         return Err(Refusal::Range(p));
     }
@@ -23,7 +24,7 @@ pub fn check(n: &Node) -> Result<(), Refusal>
     if let Some(p) = nested(n) {
         return Err(Refusal::Nested(p));
     }
-    count_places(n, 0)?;
+    count_places(n)?;
     spend(n, None, 4095).ok_or(Refusal::Counts)?;
     Ok(())
 }

@@ -48,6 +48,6 @@ fn fill_table(node: &Node, places: usize) -> Option<Table>
 pub fn table_of(node: &Node) -> Option<Table>
     ensures { MatchOption result (Roomy (tree_in node.now) → ⊥) (λ t. TableOf (tree_in node.now) t) }
 {
-    let places = count_places(node, 0).ok()?;
+    let places = count_places(node).ok()?;
     fill_table(node, places)
 }

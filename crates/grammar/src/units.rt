@@ -49,6 +49,7 @@ impl<'a> Reader<'a> {
         match self.byte(at) {
             None => Err(Refusal::End(at)),
             Some(b'.') => Ok(None),
+            // By a match: the place of the refusal is known here alone.
             Some(b) => match Colour::try_from(b) {
                 Ok(colour) => Ok(Some(colour)),
                 Err(_) => Err(Refusal::Byte(at)),

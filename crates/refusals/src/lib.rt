@@ -69,6 +69,7 @@ pub enum Refusal {
 
 impl Refusal {
     /// The number by which the refusal is known outside.
+    // By a match, and a call by name: cases that carry a place have no discriminant, and `u8::from` would not say which number is meant.
     pub fn number(self) -> u8
         ensures { result ≡ number_of self }
     {

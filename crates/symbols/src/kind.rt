@@ -38,6 +38,7 @@ pub trait Kind {
         ensures { result ≡ answer (nat_lt c codes) (symbol c) NoCode };
 
     /// How many bytes a unit has.
+    // Beside `UNIT`: a clause cannot cite a constant of a generic kind.
     fn unit_length() -> usize
         ensures { result ≡ unit_length };
 
