@@ -290,3 +290,9 @@ trailing_set (suc k) n h = ⊎_elim
     let z = trailing_even k n d in
     ap (bit n) z ∙ bit_up n (count_trailing_zeros k (n / 2)) ∙ trailing_set k (n / 2) (omega arith))
     (cases_eq (n % 2) 1)
+
+-- the laws of `n < 64 && (w >> n) & 1 == 1`
+pub ruleset tested_laws = (bit_tested, bit_past_word)
+
+-- the laws of `w & !v`
+pub ruleset difference_laws = (bit_of_and, bit_not, bit_past_word)

@@ -13,6 +13,7 @@ impl Set64 {
     }
 
     /// The set with `n` alone, or the empty set where `n` is 64 or more.
+    #[tactic(auto, using(crate::proofs::Shifts::bit_shifted), unfolding(crate::specs::Members::member))]
     pub fn only(n: u8) -> Set64
         ensures { (k : ℕ) → member result k ≡ (k == n && nat_lt k 64) }
     {
@@ -59,6 +60,7 @@ impl Set64 {
     }
 
     /// The numbers that are in this set and not in the other.
+    #[tactic(auto, using(crate::proofs::Laws::difference_laws), unfolding(crate::specs::Members::member))]
     pub fn difference(self, other: Set64) -> Set64
         ensures { (k : ℕ) → member result k ≡ (member self k && not (member other k)) }
     {
@@ -75,6 +77,7 @@ impl Set64 {
     }
 
     /// This set without `n`.
+    #[tactic(auto, using(crate::proofs::Members::member_past))]
     pub fn remove(self, n: u8) -> Set64
         ensures { (k : ℕ) → member result k ≡ (member self k && not (k == n)) }
     {
@@ -82,6 +85,7 @@ impl Set64 {
     }
 
     /// Whether `n` is in the set.
+    #[tactic(auto, using(crate::proofs::Laws::tested_laws), unfolding(crate::specs::Members::member))]
     pub fn has(self, n: u8) -> bool
         ensures { result ≡ member self n }
     {

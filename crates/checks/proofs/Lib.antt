@@ -1,1 +1,3 @@
 pub mod PlaceCounts
+pub mod Budgets
+pub mod Searches

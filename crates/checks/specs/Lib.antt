@@ -1,4 +1,5 @@
 -- What a pattern may not have, what its widths add to, and what the checks answer.
 pub mod Faults
+pub mod Searches
 pub mod Widths
 pub mod Checks

@@ -1,5 +1,5 @@
 -- What the widths of a pattern's places add to.
-use Rattle.std.specs.Prelude.{ℕ, zero, suc, ◌+◌}
+use Rattle.std.specs.Prelude.{ℕ, zero, suc, ◌+◌, Some, None, Option}
 use Rattle.automata.specs.Language.{Tree}
 use Rattle.automata.specs.Places.{size, width}
 use Rattle.grammar.specs.Ast.{Ast, empty, leaf, class, cat, alt, repeat, star, plus, opt, counted}
@@ -33,3 +33,8 @@ widths_in (repeat star a) = widths_in a
 widths_in (repeat plus a) = widths_in a
 widths_in (repeat opt a) = widths_in a
 widths_in (repeat (counted at low high) a) = widths_at high a
+
+-- the same of a part: where a counted repeat around it has a width for each place, and else where none has
+abbrev pub widths_by : Option ℕ → Ast → ℕ
+widths_by None t = widths_in t
+widths_by (Some w) t = widths_at w t

@@ -24,6 +24,6 @@ pub fn check(n: &Node) -> Result<(), Refusal>
         return Err(Refusal::Nested(p));
     }
     count_places(n, 0)?;
-    spend(n, 4095).ok_or(Refusal::Counts)?;
+    spend(n, None, 4095).ok_or(Refusal::Counts)?;
     Ok(())
 }

@@ -1,7 +1,9 @@
-//! Searches of a tree, each for the leftmost place of one fault.
+//! Searches of a tree, each for the leftmost place of one fault: one walk, and a closure that tells what a node shows.
 ghost use Rattle.std.specs.Prelude.{◌≡◌, ◌<◌, ◌⊎◌, Decides};
+ghost use Rattle.std.specs.Fn.{FnReturnsAt};
 ghost use Rattle.grammar.specs.Nodes.{ast_of};
 ghost use Rattle.checks.specs.Faults.{Finds, least, BackwardAt, EmptyAt, BoundsAt, CountedAt, NestedAt};
+ghost use Rattle.checks.specs.Searches.{Fault, backward, no_code, bounds, counted, nested, FaultAt, Shows, Tells};
 
 use grammar::{Node, Times};
 
@@ -15,28 +17,53 @@ fn earlier(a: Option<usize>, b: Option<usize>) -> Option<usize>
     }
 }
 
+/// The leftmost place of a fault, of which `fault` tells what one node shows.
+fn leftmost<F: Fn(&Node) -> Option<usize>>(n: &Node, fault: &F) -> Option<usize>
+    requires { F.IsAlwaysCallable fault.now }
+    ensures { (f : Fault) → Tells f (FnReturnsAt F.Fn fault.now) → Finds (FaultAt f (ast_of n.now)) result }
+{
+    let here = fault(n);
+    match n {
+        Node::Cat(a, b) | Node::Alt(a, b) => {
+            earlier(here, earlier(leftmost(a, fault), leftmost(b, fault)))
+        }
+        Node::Repeat(a, _) => earlier(here, leftmost(a, fault)),
+        _ => here,
+    }
+}
+
 /// The leftmost range that runs backwards, by its first letter.
 pub(crate) fn backward_range(n: &Node) -> Option<usize>
     ensures { Finds (BackwardAt (ast_of n.now)) result }
 {
-    match n {
-        Node::Empty | Node::Leaf(_, _) => None,
-        Node::Class(_, _, back) => *back,
-        Node::Cat(a, b) | Node::Alt(a, b) => earlier(backward_range(a), backward_range(b)),
-        Node::Repeat(a, _) => backward_range(a),
-    }
+    leftmost(
+        n,
+        &|node: &Node|
+            ensures { Shows backward (ast_of node.now) result }
+        {
+            match node {
+                Node::Class(_, _, back) => *back,
+                _ => None,
+            }
+        },
+    )
 }
 
 /// The leftmost class that spells no code, by its `[`.
 pub(crate) fn empty_class(n: &Node) -> Option<usize>
     ensures { Finds (EmptyAt (ast_of n.now)) result }
 {
-    match n {
-        Node::Empty | Node::Leaf(_, _) => None,
-        Node::Class(at, codes, _) => { if codes.is_empty() { Some(*at) } else { None } }
-        Node::Cat(a, b) | Node::Alt(a, b) => earlier(empty_class(a), empty_class(b)),
-        Node::Repeat(a, _) => empty_class(a),
-    }
+    leftmost(
+        n,
+        &|node: &Node|
+            ensures { Shows no_code (ast_of node.now) result }
+        {
+            match node {
+                Node::Class(at, codes, _) if codes.is_empty() => Some(*at),
+                _ => None,
+            }
+        },
+    )
 }
 
 /// Whether a low and a high may not bound a repeat.
@@ -51,41 +78,49 @@ fn wrong(bounds: (u16, u16)) -> bool
 pub(crate) fn wrong_bound(n: &Node) -> Option<usize>
     ensures { Finds (BoundsAt (ast_of n.now)) result }
 {
-    match n {
-        Node::Empty | Node::Leaf(_, _) | Node::Class(_, _, _) => None,
-        Node::Cat(a, b) | Node::Alt(a, b) => earlier(wrong_bound(a), wrong_bound(b)),
-        Node::Repeat(a, Times::Counted(at, bounds)) => {
-            let inner = wrong_bound(a);
-            if wrong(*bounds) {
-                earlier(inner, Some(*at))
-            } else {
-                inner
+    leftmost(
+        n,
+        &|node: &Node|
+            ensures { Shows bounds (ast_of node.now) result }
+        {
+            match node {
+                Node::Repeat(_, Times::Counted(at, bounds)) if wrong(*bounds) => Some(*at),
+                _ => None,
             }
-        }
-        Node::Repeat(a, Times::Star | Times::Plus | Times::Opt) => wrong_bound(a),
-    }
+        },
+    )
 }
 
 /// The leftmost counted repeat, by its `{`.
 fn counted(n: &Node) -> Option<usize>
     ensures { Finds (CountedAt (ast_of n.now)) result }
 {
-    match n {
-        Node::Empty | Node::Leaf(_, _) | Node::Class(_, _, _) => None,
-        Node::Cat(a, b) | Node::Alt(a, b) => earlier(counted(a), counted(b)),
-        Node::Repeat(a, Times::Counted(at, _)) => earlier(counted(a), Some(*at)),
-        Node::Repeat(a, Times::Star | Times::Plus | Times::Opt) => counted(a),
-    }
+    leftmost(
+        n,
+        &|node: &Node|
+            ensures { Shows counted (ast_of node.now) result }
+        {
+            match node {
+                Node::Repeat(_, Times::Counted(at, _)) => Some(*at),
+                _ => None,
+            }
+        },
+    )
 }
 
 /// The leftmost counted repeat inside the body of another, by its `{`.
 pub(crate) fn nested(n: &Node) -> Option<usize>
     ensures { Finds (NestedAt (ast_of n.now)) result }
 {
-    match n {
-        Node::Empty | Node::Leaf(_, _) | Node::Class(_, _, _) => None,
-        Node::Cat(a, b) | Node::Alt(a, b) => earlier(nested(a), nested(b)),
-        Node::Repeat(a, Times::Counted(_, _)) => counted(a),
-        Node::Repeat(a, Times::Star | Times::Plus | Times::Opt) => nested(a),
-    }
+    leftmost(
+        n,
+        &|node: &Node|
+            ensures { Shows nested (ast_of node.now) result }
+        {
+            match node {
+                Node::Repeat(body, Times::Counted(_, _)) => counted(body),
+                _ => None,
+            }
+        },
+    )
 }

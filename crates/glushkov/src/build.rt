@@ -1,31 +1,16 @@
 ghost use Rattle.std.specs.Prelude.{◌≡◌, ◌≤◌, MatchOption};
 ghost use Rattle.automata.specs.Places.{size};
 ghost use Rattle.glushkov.specs.Nodes.{tree_in};
-ghost use Rattle.glushkov.specs.Passes.{FreshCounts, FreshRows};
+ghost use Rattle.glushkov.specs.Passes.{FreshRows};
 ghost use Rattle.tables.specs.Tables.{Roomy, TableOf};
 
-use crate::counts::{count, fill};
 use crate::data::Counts;
 use crate::joins::join_row;
 use crate::links::link;
-use bits::Set64;
+use checks::count_places;
 use grammar::Node;
-use tables::{Link, LinkRow, Links, Place, Table};
+use tables::{Link, LinkRow, Links, Table};
 use widths::Widths;
-
-// No place but the start, which has width 1 and low 1.
-fn fresh_counts() -> Counts
-    ensures { FreshCounts result }
-{
-    let mut each = [Place {
-        codes: Set64::empty(),
-        low: 0,
-    }; 65];
-    each[0].low = 1;
-    let mut widths = [0; 65];
-    widths[0] = 1;
-    Counts { each, widths }
-}
 
 // No links.
 fn fresh_rows() -> [LinkRow; 65]
@@ -41,8 +26,8 @@ fn fill_table(node: &Node, places: usize) -> Option<Table>
     requires { (places ≡ size (tree_in node.now)) × (places ≤ 64) }
     ensures { MatchOption result (Roomy (tree_in node.now) → ⊥) (λ t. TableOf (tree_in node.now) t) }
 {
-    let mut counts = fresh_counts();
-    let _last = fill(node, 0, None, &mut counts);
+    let mut counts = Counts::fresh();
+    let _last = counts.fill(node, 0, None);
     let widths = Widths::of(&counts.widths)?;
     let mut links = fresh_rows();
     let part = link(node, 0, false, &mut links);
@@ -59,9 +44,10 @@ fn fill_table(node: &Node, places: usize) -> Option<Table>
 }
 
 /// The table of a tree, or `None` where the tree has more than 64 places, a width above 1,000, or widths that add to more than 4,096.
+#[tactic(auto, using(syntax::proofs::PlaceCounts::length_places_of))]
 pub fn table_of(node: &Node) -> Option<Table>
     ensures { MatchOption result (Roomy (tree_in node.now) → ⊥) (λ t. TableOf (tree_in node.now) t) }
 {
-    let places = count(node, 0)?;
+    let places = count_places(node, 0).ok()?;
     fill_table(node, places)
 }

@@ -5,9 +5,7 @@ ghost use Rattle.glushkov.specs.Passes.{PartOf, LinksOf};
 
 use crate::data::Part;
 use crate::joins::join;
-use crate::parts::{
-    can_be_empty, in_choice, in_order, inside_body, link_again, meeting_link, no_place, one_place,
-};
+use crate::parts::{can_be_empty, inside_body, link_again, meeting_link};
 use grammar::Node;
 use tables::LinkRow;
 
@@ -18,18 +16,18 @@ pub(crate) fn link(node: &Node, offset: usize, inside: bool, rows: &mut [LinkRow
     ensures links { LinksOf (tree_in node.now) offset inside rows.old rows.new }
 {
     match node {
-        Node::Empty => no_place(offset),
-        Node::Leaf(_, _) | Node::Class(_, _, _) => one_place(offset),
+        Node::Empty => Part::empty(offset),
+        Node::Leaf(_, _) | Node::Class(_, _, _) => Part::one_place(offset),
         Node::Cat(a, b) => {
             let left = link(a, offset, inside, rows);
             let right = link(b, left.upto, inside, rows);
             join(rows, left.lasts, right.firsts, meeting_link(inside));
-            in_order(&left, &right)
+            left.followed_by(right)
         }
         Node::Alt(a, b) => {
             let left = link(a, offset, inside, rows);
             let right = link(b, left.upto, inside, rows);
-            in_choice(&left, &right)
+            left.or(right)
         }
         Node::Repeat(body, times) => {
             let part = link(body, offset, inside_body(*times, inside), rows);

@@ -7,60 +7,63 @@ use crate::data::Part;
 use grammar::Times;
 use tables::{Link, PlaceSet};
 
-// An empty branch.
-pub(crate) fn no_place(offset: usize) -> Part
-    ensures { PartOf empty offset result }
-{
-    Part {
-        upto: offset,
-        nullable: true,
-        firsts: PlaceSet::empty(),
-        lasts: PlaceSet::empty(),
+impl Part {
+    // An empty branch.
+    pub(crate) fn empty(offset: usize) -> Part
+        ensures { PartOf empty offset result }
+    {
+        Part {
+            upto: offset,
+            nullable: true,
+            firsts: PlaceSet::empty(),
+            lasts: PlaceSet::empty(),
+        }
     }
-}
 
-// A unit or a class.
-pub(crate) fn one_place(offset: usize) -> Part
-    requires { offset < 64 }
-    ensures { (S : ℕ → Bool) → PartOf (unit S) offset result }
-{
-    Part {
-        upto: offset + 1,
-        nullable: false,
-        firsts: PlaceSet::only(offset + 1),
-        lasts: PlaceSet::only(offset + 1),
+    // A unit or a class.
+    pub(crate) fn one_place(offset: usize) -> Part
+        requires { offset < 64 }
+        ensures { (S : ℕ → Bool) → PartOf (unit S) offset result }
+    {
+        let place = PlaceSet::only(offset + 1);
+        Part {
+            upto: offset + 1,
+            nullable: false,
+            firsts: place,
+            lasts: place,
+        }
     }
-}
 
-// One part after another.
-pub(crate) fn in_order(a: &Part, b: &Part) -> Part
-    ensures { (s t : Tree) (o : ℕ) → PartOf s o a.now → PartOf t a.now.upto b.now → PartOf (cat s t) o result }
-{
-    Part {
-        upto: b.upto,
-        nullable: a.nullable && b.nullable,
-        firsts: if a.nullable {
-            a.firsts.union(b.firsts)
-        } else {
-            a.firsts
-        },
-        lasts: if b.nullable {
-            b.lasts.union(a.lasts)
-        } else {
-            b.lasts
-        },
+    // This part, and then another.
+    pub(crate) fn followed_by(self, other: Part) -> Part
+        ensures { (s t : Tree) (o : ℕ) → PartOf s o self → PartOf t self.upto other → PartOf (cat s t) o result }
+    {
+        Part {
+            upto: other.upto,
+            nullable: self.nullable && other.nullable,
+            firsts: if self.nullable {
+                self.firsts.union(other.firsts)
+            } else {
+                self.firsts
+            },
+            lasts: if other.nullable {
+                other.lasts.union(self.lasts)
+            } else {
+                other.lasts
+            },
+        }
     }
-}
 
-// One part or another.
-pub(crate) fn in_choice(a: &Part, b: &Part) -> Part
-    ensures { (s t : Tree) (o : ℕ) → PartOf s o a.now → PartOf t a.now.upto b.now → PartOf (alt s t) o result }
-{
-    Part {
-        upto: b.upto,
-        nullable: a.nullable || b.nullable,
-        firsts: a.firsts.union(b.firsts),
-        lasts: a.lasts.union(b.lasts),
+    // This part or another.
+    pub(crate) fn or(self, other: Part) -> Part
+        ensures { (s t : Tree) (o : ℕ) → PartOf s o self → PartOf t self.upto other → PartOf (alt s t) o result }
+    {
+        Part {
+            upto: other.upto,
+            nullable: self.nullable || other.nullable,
+            firsts: self.firsts.union(other.firsts),
+            lasts: self.lasts.union(other.lasts),
+        }
     }
 }
 

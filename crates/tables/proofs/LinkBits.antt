@@ -35,3 +35,5 @@ pub tested_link : (m : ℕ) (link : Link) → not (eqb (bit_and m (mask_of link)
 tested_link m Within = tested_bit m 1 0 refl
 tested_link m Next = tested_bit m 2 1 refl
 tested_link m Cross = tested_bit m 4 2 refl
+
+pub ruleset link_laws = (tested_bit, tested_link)

@@ -48,6 +48,7 @@ impl Links {
     }
 
     /// Whether the link is among these.
+    #[tactic(auto, using(crate::proofs::LinkBits::link_laws))]
     pub fn has(self, link: Link) -> bool
         ensures link { result ≡ has_link self.mask link }
         ensures value { result ≡ not (bit_and self.mask (mask_of link) == 0) }

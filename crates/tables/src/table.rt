@@ -6,21 +6,21 @@ use bits::Set64;
 use widths::Widths;
 
 /// The links from one place: for every place, by its number, those that lead there.
-#[derive(Clone, Copy)]
+#[derive(Clone, Copy, PartialEq, Eq, Debug)]
 pub struct LinkRow {
     pub to: [Links; 65],
     ghost long: { length to ≡ 65 },
 }
 
 /// What a place takes, and the low of its counted repeat.
-#[derive(Clone, Copy)]
+#[derive(Clone, Copy, PartialEq, Eq, Debug)]
 pub struct Place {
     pub codes: Set64,
     pub low: u16,
 }
 
 /// The places of a pattern, what each one takes, and the links between them. Place 0 is the start.
-#[derive(Clone, Copy)]
+#[derive(Clone, Copy, PartialEq, Eq, Debug)]
 pub struct Table {
     pub places: usize,
     pub nullable: bool,

@@ -13,7 +13,7 @@ returns-in-Cat t c =
     let pb = rw c.deref-in-Cat.ensures at c.link-right.ensures.part in
     let lb = rw c.deref-in-Cat.ensures at c.link-right.ensures.links in
     record {
-      part = subst (λ v. PartOf v c.args.offset c.in_order.result) (sym e) (c.in_order.ensures _ _ _ pa pb);
+      part = subst (λ v. PartOf v c.args.offset c.followed_by.result) (sym e) (c.followed_by.ensures _ _ _ pa pb);
       links =
           subst (λ v. LinksOf v c.args.offset c.args.inside c.args.rows.now c.join.new.rows) (sym e)
           (cat_links _ _ _ _ _ _ c.link-right.new.rows _ c.link-left.result c.link-right.result c.meeting_link.result c.meeting_link.ensures pa pb la lb c.join.ensures);
@@ -27,7 +27,7 @@ returns-in-Alt t c =
     let pb = rw c.deref-in-Alt-2.ensures at c.link-right-in-Alt.ensures.part in
     let lb = rw c.deref-in-Alt-2.ensures at c.link-right-in-Alt.ensures.links in
     record {
-      part = subst (λ v. PartOf v c.args.offset c.in_choice.result) (sym e) (c.in_choice.ensures _ _ _ pa pb);
+      part = subst (λ v. PartOf v c.args.offset c.or.result) (sym e) (c.or.ensures _ _ _ pa pb);
       links =
           subst (λ v. LinksOf v c.args.offset c.args.inside c.args.rows.now c.link-right-in-Alt.new.rows) (sym e)
           (alt_links _ _ _ _ _ _ _ c.link-left-in-Alt.result pa la lb);

@@ -1,6 +1,6 @@
 use Rattle.std.proofs.Common.{arith}
 use Rattle.glushkov.proofs.CountLaws.{pair_size, pair_counts}
-use Rattle.glushkov.proofs.counts.+fill.Goals as goal
+use Rattle.glushkov.proofs.data.Counts.+fill.Goals as goal
 
 pub returns-in-Cat : goal.returns-in-Cat
 returns-in-Cat t c =

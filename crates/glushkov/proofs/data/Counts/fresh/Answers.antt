@@ -1,5 +1,5 @@
 use Rattle.glushkov.proofs.TableMade.{only_start, fresh_codes, fresh_lows}
-use Rattle.glushkov.proofs.build.fresh_counts.Goals as goal
+use Rattle.glushkov.proofs.data.Counts.fresh.Goals as goal
 
 pub returns : goal.returns
 returns c = record { sets = fresh_codes c.empty.result c.empty.ensures; widths = only_start; lows = fresh_lows c.empty.result }
