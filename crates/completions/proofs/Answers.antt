@@ -11,8 +11,6 @@ use Rattle.steps.specs.Fronts.{IsFront}
 use Rattle.completions.specs.declared.nearest.Found.{Found}
 use Rattle.completions.specs.Nearest.{LeastMark}
 use Rattle.completions.specs.Towards.{Towards}
-use Rattle.distances.specs.Marks.{Beyond, Wiped}
-use Rattle.completions.specs.Answers.{FullArea, Cleared}
 
 module _ (e : Tree) (w : List ℕ) (formed : WellFormed e) (some : NoEmptySet e) (f : Pairs) (front : IsFront e w f) (M : ℕ → ℕ → ℕ) (labels : Labelled e M) where
   pub found_need : (x : Found) → LeastMark M f (Some x) → Need e w x.distance
@@ -34,10 +32,3 @@ module _ (e : Tree) (w : List ℕ) (formed : WellFormed e) (some : NoEmptySet e)
       let n : x.distance ≡ suc (x.distance - 1) = omega arith in
       hint_by_labels e M w x.place x.count q j c (x.distance - 1) formed some labels (subst (λ k. Need e w k) n (found_need x h))
       ((front x.place x.count).0 h.0) link (is ∙ n) held
-
--- a full area that was measured and then wiped
-pub cleared : (old mid new : List ℕ) → FullArea old → Beyond old mid → Wiped mid new → Cleared old new
-cleared old mid new long kept h = record {
-  short = λ less. absurd (omega arith);
-  full = λ _. record { zero = h.zero; beyond = λ k far. h.beyond k far ∙ kept k far };
-}

@@ -47,13 +47,6 @@ module _ (e : Tree) (formed : WellFormed e) (g : Graph) (of : TableOf e g.table.
       let t : leb p (size e) ≡ true = grind (arith, nat_tests) in
       of.lows p ∙ ap (λ (x : Bool). cond x (low e 0 p) 0) t
 
-  pub pair_inside : (p i : ℕ) → Pair g p i → Inside e p i
-  pair_inside p i (a, b, c) =
-      let s = of.places in
-      let l : p ≤ size e = omega arith in
-      let w = width_is p l in
-      (l, b, omega arith)
-
   pub inside_pair : (p i : ℕ) → Inside e p i → Pair g p i
   inside_pair p i (a, b, c) =
       let s = of.places in

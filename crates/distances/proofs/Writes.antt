@@ -1,12 +1,12 @@
 -- A write of a better mark keeps the marks grounded and leaves less to gain.
-use Rattle.std.proofs.Common.{◌≡◌, ℕ, zero, suc, ◌+◌, ◌<◌, ◌≤◌, Bool, true, cond, ◌⊎◌, List, [], ◌∷◌, length, get_or, set, sym, ap, ◌∙◌, subst, inl, inr, ⊎_elim, arith}
+use Rattle.std.proofs.Common.{◌≡◌, ℕ, zero, suc, ◌+◌, ◌<◌, ◌≤◌, Bool, true, cond, ◌⊎◌, List, [], ◌∷◌, length, get_or, set, sym, ◌∙◌, subst, inl, inr, ⊎_elim, arith}
 use Rattle.std.proofs.lemmas.List.{get_or-set_same, get_or-set_other}
 use Rattle.std.proofs.lemmas.Bool.{cases_eq}
 use Rattle.std.proofs.lemmas.Bool.Decides.{nat_tests}
 use Rattle.widths.specs.Width.{widths_of, base_of}
 use Rattle.distances.specs.declared.graph.Graph.{Graph}
 use Rattle.distances.specs.Graphs.{Pair, Leads, accepting, mark_in, number_in}
-use Rattle.distances.specs.Search.{Better, Grounded, Ground, Settled, Behind, rest}
+use Rattle.distances.specs.Search.{Better, Grounded, Ground, Behind, rest}
 use Rattle.distances.proofs.Numbers.{number_inner, number_apart, total_room}
 
 -- what a mark r of (p, i) rests on
@@ -136,21 +136,3 @@ module _ (g : Graph) (l : List ℕ) (long : 4096 ≤ length l) (p i r k : ℕ) (
 
   pub write_falls : 1 ≤ r → (get_or l k 0 ≡ 0) ⊎ (r < get_or l k 0) → rest (set l k r) < rest l
   write_falls some better = rest_falls l k r within_area some (b.small first_small) better
-
-  -- where r is no better than the mark there, nothing lowers that
-  pub still_there : (r ≡ 0) ⊎ ((1 ≤ get_or l k 0) × (get_or l k 0 ≤ r)) → Settled g l p i
-  still_there no-better =
-      let is : get_or l k 0 ≡ mark_in g l p i = ap (λ (v : ℕ). get_or l v 0) k-is in
-      record {
-        accepts = λ a.
-            let one : ◌≡◌ {A = ℕ} (cond (accepting g p i) 1 0) 1 = ap (λ (x : Bool). cond {A = ℕ} x 1 0) a in
-            let y = b.keeps (omega arith) in
-            let y0 = y.0 in
-            let y1 = y.1 in
-            ⊎_elim (λ (z : r ≡ 0). let w : ⊥ = omega arith in absurd w) (λ z. let z0 = z.0 in let z1 = z.1 in omega arith) no-better;
-        linked = λ q j s m small.
-            let y = b.near q j s m small in
-            let y0 = y.0 in
-            let y1 = y.1 in
-            ⊎_elim (λ (z : r ≡ 0). let w : ⊥ = omega arith in absurd w) (λ z. let z0 = z.0 in let z1 = z.1 in (omega arith, omega arith)) no-better;
-      }

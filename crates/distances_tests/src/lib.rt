@@ -15,9 +15,7 @@ mod tests {
 
     // The table of a letters pattern.
     fn table(heap: Global, text: &[u8]) -> Result<Table, Fail> {
-        let Ok(tree) = parse(heap, Alphabet::Letters, text) else {
-            return Err(Fail::new("the pattern is refused"));
-        };
+        let tree = parse(heap, Alphabet::Letters, text)?;
         let Some(table) = table_of(&tree) else {
             return Err(Fail::new("there is no table"));
         };

@@ -29,9 +29,6 @@ module _ (e : Tree) (t : Table) (table : TableOf e t) (f : Pairs) where
   abbrev pub Accepting : Type 0
   Accepting = (p : ℕ) × (i : ℕ) × InSet f p i × Accepts e p i
 
-  pub start_accepts : t.nullable ≡ true → Seen f 0 1 1 → Accepting
-  start_accepts n (i, a, b, x) = (0, i, x, inl (refl, omega arith, true_T (nullable e) (sym table.null ∙ n)))
-
   pub last_accepts : (p : ℕ) → has_place t.lasts p ≡ true → seen f p (low_of t p) (width_of t.widths p) ≡ true → Accepting
   last_accepts p l s =
       let (i, lo, hi, x) = (seen_decides f p (low_of t p) (width_of t.widths p)).0 s in

@@ -10,6 +10,8 @@ use banks::Bank;
 use refusals::Refusal;
 use tables::Table;
 
+// `Fresh` is a premise of what is promised and no `requires`: a public call asks nothing of its callers.
+
 /// Makes the step by a code: the front is then what the links give of it at the places that take the code, and the back is
 /// empty. Refused with `Full` where the bank cannot hold the new front; the front then stays. All that is promised of a bank
 /// in standing with the table's widths, a front within them and an empty back, as one is that was just started.
