@@ -9,7 +9,7 @@ use Rattle.banks.specs.Pairs.{only, ◌∪◌}
 use Rattle.banks.proofs.Sets.{same_pairs}
 use Rattle.list_bank.specs.declared.pairs.PairList.{PairList}
 use Rattle.list_bank.specs.Listed.{rank, listed, Short}
-use Rattle.list_bank.specs.Means.{pairs_of, At, First}
+use Rattle.list_bank.specs.Means.{pairs_of, At}
 use Rattle.list_bank.proofs.Lists.{Among, listed_decides, Distinct, Found, at_least}
 
 -- a pair that is there changes nothing
@@ -24,6 +24,25 @@ same_there l k p i at = same_pairs (pairs_of l) (pairs_of l ∪ only p i) (λ a 
 -- a pair that is listed is found
 found : (ys : List (ℕ × ℕ)) (x : ℕ × ℕ) → listed ys (length ys) x.0 x.1 ≡ true → Found ys x
 found ys x h = let a = (listed_decides ys (length ys) x.0 x.1).0 h in (a.0, a.1, (λ t. (a.2.0 t, a.2.1 t)))
+
+-- where (p, i) is not the pair at k, it comes before all pairs from k on
+pub comes_before : (l : PairList) (p i k : ℕ) → ((m : ℕ) → k ≤ m → m < length l.pairs.items → rank (p, i) ≤ rank (slice_index_or l.pairs.items m (0, 0)))
+    → (k < length l.pairs.items → rank (p, i) ≢ rank (slice_index_or l.pairs.items k (0, 0)))
+    → (m : ℕ) → k ≤ m → m < length l.pairs.items → rank (p, i) < rank (slice_index_or l.pairs.items m (0, 0))
+comes_before l p i k above ne m h u = ⊎_elim
+    (λ (e : m ≡ k).
+    let a = above m h u in
+    let r : rank (slice_index_or l.pairs.items m (0, 0)) ≡ rank (slice_index_or l.pairs.items k (0, 0)) = ap (λ (x : ℕ). rank (slice_index_or l.pairs.items x (0, 0))) e in
+    let n = ne (omega arith) in
+    ⊎_elim
+    (λ (q : rank (p, i) ≡ rank (slice_index_or l.pairs.items k (0, 0))). absurd (n q))
+    (λ (q : rank (p, i) ≡ rank (slice_index_or l.pairs.items k (0, 0)) → ⊥). omega arith)
+    (cases_eq (rank (p, i)) (rank (slice_index_or l.pairs.items k (0, 0)))))
+    (λ (d : m ≡ k → ⊥).
+    let a = above k (omega arith) (omega arith) in
+    let o = l.ascends k m (omega arith) u in
+    omega arith)
+    (cases_eq m k)
 
 -- (p, i) would be at k: the pairs below come before it, those from k on after it
 module _ (l : PairList) (p i k : ℕ) (bound : k ≤ length l.pairs.items)
@@ -89,6 +108,11 @@ module _ (l : PairList) (p i k : ℕ) (bound : k ≤ length l.pairs.items)
         (cases_eq m k))
         (cases_lt m k)
 
+    after_k : (m : ℕ) → k < m → m < length l.pairs.items + 1 → rank (slice_index_or items m (0, 0)) ≡ rank (slice_index_or l.pairs.items (m - 1) (0, 0))
+    after_k m h u =
+        let s : m ≡ m - 1 + 1 = omega arith in
+        ap (λ (x : ℕ). rank (slice_index_or items x (0, 0))) s ∙ ap rank (up (m - 1) (omega arith) (omega arith))
+
     -- a pair that was there, or (p, i), is there now
     put_in : (a j : ℕ) → (Among l.pairs.items (length l.pairs.items) a j ⊎ ((a ≡ p) × (j ≡ i))) → Among items (length l.pairs.items + 1) a j
     put_in a j = ⊎_elim
@@ -115,7 +139,60 @@ module _ (l : PairList) (p i k : ℕ) (bound : k ≤ length l.pairs.items)
         inl (x.0 - 1, omega arith, (ap (λ y. y.0) (sym b.1) ∙ x.2.0, ap (λ y. y.1) (sym b.1) ∙ x.2.1))))
         (now_at x.0 lt)
 
-    listed_more : listed items (length l.pairs.items + 1) ≡ (pairs_of l ∪ only p i)
+    pub ascends_more : (j m : ℕ) → j < m → m < length l.pairs.items + 1 → rank (slice_index_or items j (0, 0)) < rank (slice_index_or items m (0, 0))
+    ascends_more j m h u = ⊎_elim
+        (λ (a : (j < k) × (slice_index_or items j (0, 0) ≡ slice_index_or l.pairs.items j (0, 0))).
+        let ra : rank (slice_index_or items j (0, 0)) ≡ rank (slice_index_or l.pairs.items j (0, 0)) = ap rank a.1 in
+        let va = below j a.0 in
+        ⊎_elim
+        (λ (b : (m < k) × (slice_index_or items m (0, 0) ≡ slice_index_or l.pairs.items m (0, 0))).
+        let rb : rank (slice_index_or items m (0, 0)) ≡ rank (slice_index_or l.pairs.items m (0, 0)) = ap rank b.1 in
+        let x = b.0 in
+        let o = l.ascends j m h (omega arith) in
+        omega arith)
+        (⊎_elim
+        (λ (b : (m ≡ k) × (slice_index_or items m (0, 0) ≡ (p, i))).
+        let rb : rank (slice_index_or items m (0, 0)) ≡ rank (p, i) = ap rank b.1 in
+        omega arith)
+        (λ (b : (k < m) × (slice_index_or items m (0, 0) ≡ slice_index_or l.pairs.items (m - 1) (0, 0))).
+        let rb : rank (slice_index_or items m (0, 0)) ≡ rank (slice_index_or l.pairs.items (m - 1) (0, 0)) = ap rank b.1 in
+        let x = b.0 in
+        let o = over (m - 1) (omega arith) (omega arith) in
+        omega arith))
+        (now_at m u))
+        (⊎_elim
+        (λ (a : (j ≡ k) × (slice_index_or items j (0, 0) ≡ (p, i))).
+        let ra : rank (slice_index_or items j (0, 0)) ≡ rank (p, i) = ap rank a.1 in
+        let y = a.0 in
+        let rb : rank (slice_index_or items m (0, 0)) ≡ rank (slice_index_or l.pairs.items (m - 1) (0, 0)) = after_k m (omega arith) u in
+        let o = over (m - 1) (omega arith) (omega arith) in
+        omega arith)
+        (λ (a : (k < j) × (slice_index_or items j (0, 0) ≡ slice_index_or l.pairs.items (j - 1) (0, 0))).
+        let ra : rank (slice_index_or items j (0, 0)) ≡ rank (slice_index_or l.pairs.items (j - 1) (0, 0)) = ap rank a.1 in
+        let y = a.0 in
+        let rb : rank (slice_index_or items m (0, 0)) ≡ rank (slice_index_or l.pairs.items (m - 1) (0, 0)) = after_k m (omega arith) u in
+        let o = l.ascends (j - 1) (m - 1) (omega arith) (omega arith) in
+        omega arith))
+        (now_at j (omega arith))
+
+    -- every place has 8 bits
+    pub places_more : p < 256 → (m : ℕ) → m < length l.pairs.items + 1 → (get_or items m (0, 0)).0 < 256
+    places_more hp m h = ⊎_elim
+        (λ (a : (m < k) × (slice_index_or items m (0, 0) ≡ slice_index_or l.pairs.items m (0, 0))).
+        let e : (get_or items m (0, 0)).0 ≡ (get_or l.pairs.items m (0, 0)).0 = ap (λ y. y.0) a.1 in
+        let u = a.0 in
+        let f = l.places m (omega arith) in
+        omega arith)
+        (⊎_elim
+        (λ (a : (m ≡ k) × (slice_index_or items m (0, 0) ≡ (p, i))). let e : (get_or items m (0, 0)).0 ≡ p = ap (λ y. y.0) a.1 in omega arith)
+        (λ (a : (k < m) × (slice_index_or items m (0, 0) ≡ slice_index_or l.pairs.items (m - 1) (0, 0))).
+        let e : (get_or items m (0, 0)).0 ≡ (get_or l.pairs.items (m - 1) (0, 0)).0 = ap (λ y. y.0) a.1 in
+        let u = a.0 in
+        let f = l.places (m - 1) (omega arith) in
+        omega arith))
+        (now_at m h)
+
+    pub listed_more : listed items (length l.pairs.items + 1) ≡ (pairs_of l ∪ only p i)
     listed_more = same_pairs (listed items (length l.pairs.items + 1)) (pairs_of l ∪ only p i) (λ a j.
         same_from_decides (listed items (length l.pairs.items + 1) a j) (listed l.pairs.items (length l.pairs.items) a j || (a == p && j == i))
         (listed_decides items (length l.pairs.items + 1) a j)
@@ -128,10 +205,10 @@ module _ (l : PairList) (p i k : ℕ) (bound : k ≤ length l.pairs.items)
 
 -- a count from low to high is listed at p exactly where the first pair that is not before (p, low) is at p with a count up to high
 pub any_is : (l : PairList) (p low high k : ℕ) → high < 65536 → (get_or l.pairs.items k (0, 0)).1 < 65536
-    → First l k p low
+    → ((m : ℕ) → m < k → rank (slice_index_or l.pairs.items m (0, 0)) < rank (p, low))
+    → ((m : ℕ) → k ≤ m → m < length l.pairs.items → rank (p, low) ≤ rank (slice_index_or l.pairs.items m (0, 0)))
     → Decides (nat_lt k (length l.pairs.items) && ((get_or l.pairs.items k (0, 0)).0 == p && nat_le (get_or l.pairs.items k (0, 0)).1 high)) ((i : ℕ) × (low ≤ i) × (i ≤ high) × (pairs_of l p i ≡ true))
-any_is l p low high k fits-high fits first =
-    let below = first.below in let above = first.from in
+any_is l p low high k fits-high fits below above =
     let x = get_or l.pairs.items k (0, 0) in (
       (λ t.
           let g = and_parts (nat_lt k (length l.pairs.items)) (x.0 == p && nat_le x.1 high) t in
@@ -161,15 +238,16 @@ any_is l p low high k fits-high fits first =
     )
 
 -- where all pairs come before (p, low), no count from low on is listed at p
-pub any_none : (l : PairList) (p low high k : ℕ) → length l.pairs.items ≤ k → First l k p low
+pub any_none : (l : PairList) (p low high k : ℕ) → length l.pairs.items ≤ k
+    → ((m : ℕ) → m < k → rank (slice_index_or l.pairs.items m (0, 0)) < rank (p, low))
     → Decides false ((i : ℕ) × (low ≤ i) × (i ≤ high) × (pairs_of l p i ≡ true))
-any_none l p low high k le first = (
+any_none l p low high k le below = (
   (λ t. absurd (false≢true t)),
   (λ s.
       let m = (listed_decides l.pairs.items (length l.pairs.items) p s.0).0 s.3 in
       let um = m.1 in let lo = s.1 in
       let e0 = m.2.0 in let e1 = m.2.1 in
-      let b = first.below m.0 (omega arith) in
+      let b = below m.0 (omega arith) in
       let no_way : ⊥ = omega arith in absurd no_way),
 )
 

@@ -28,12 +28,12 @@ by_rank y x fy fx = by_both y x (nat_cmp y.0 x.0) (nat_cmp y.1 x.1) fy fx (ranke
 
 module _ (l : PairList) (p i : ℕ) (fits : i < 65536) where
   -- the pair y comes before (p, i)
-  abbrev pub comes_before : ℕ × ℕ → Bool
-  comes_before y = is_some_and is_lt (pair_cmp y (p, i))
+  abbrev pub is_before : ℕ × ℕ → Bool
+  is_before y = is_some_and is_lt (pair_cmp y (p, i))
 
-  here : (m : ℕ) (d : ℕ × ℕ) → m < length l.pairs.items → comes_before (get_or l.pairs.items m d) ≡ ltb (rank (get_or l.pairs.items m (0, 0))) (rank (p, i))
+  here : (m : ℕ) (d : ℕ × ℕ) → m < length l.pairs.items → is_before (get_or l.pairs.items m d) ≡ ltb (rank (get_or l.pairs.items m (0, 0))) (rank (p, i))
   here m d h =
-      ap comes_before (get_or_default l.pairs.items m d (0, 0) h) ∙ (by_rank (get_or l.pairs.items m (0, 0)) (p, i) (l.counts m h) fits).0
+      ap is_before (get_or_default l.pairs.items m d (0, 0) h) ∙ (by_rank (get_or l.pairs.items m (0, 0)) (p, i) (l.counts m h) fits).0
 
   -- later pairs are no less
   pub later : (a j : ℕ) → a ≤ j → j < length l.pairs.items → rank (get_or l.pairs.items a (0, 0)) ≤ rank (get_or l.pairs.items j (0, 0))
@@ -43,14 +43,14 @@ module _ (l : PairList) (p i : ℕ) (fits : i < 65536) where
       (cases_eq a j)
 
   -- those that come before stand before the others
-  pub parted : IsPartitionedBy comes_before l.pairs.items
+  pub parted : IsPartitionedBy is_before l.pairs.items
   parted a j d le u t =
       let o = later a j le u in
       let b = ltb-true (rank (get_or l.pairs.items j (0, 0))) (rank (p, i)) (sym (here j d u) ∙ t) in
       here a d (omega arith) ∙ lt-ltb (rank (get_or l.pairs.items a (0, 0))) (rank (p, i)) (omega arith)
 
   -- where they end
-  pub first_at : (k : ℕ) → k ≤ length l.pairs.items → IsPartitionPoint (λ y. comes_before y ≡ true) (λ y. comes_before y ≡ false) l.pairs.items k → First l k p i
+  pub first_at : (k : ℕ) → k ≤ length l.pairs.items → IsPartitionPoint (λ y. is_before y ≡ true) (λ y. is_before y ≡ false) l.pairs.items k → First l k p i
   first_at k bound point = record {
     bound = bound;
     below = λ m h. ltb-true (rank (get_or l.pairs.items m (0, 0))) (rank (p, i)) (sym (here m (0, 0) (omega arith)) ∙ point.0 m (0, 0) zero-le h);

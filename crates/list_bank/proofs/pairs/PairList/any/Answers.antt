@@ -21,7 +21,7 @@ returns-then-x-p c =
     let e0 = ap (λ (x : ℕ × ℕ). x.0) r.1 in
     let e1 = ap (λ (x : ℕ × ℕ). x.1) r.1 in
     let u = r.0 in
-    Decides-at _ _ (grind (arith, nat_tests)) (any_is l c.args.p c.args.low c.args.high c.first.result (omega arith) (l.counts c.first.result u) c.first.ensures)
+    Decides-at _ _ (grind (arith, nat_tests)) (any_is l c.args.p c.args.low c.args.high c.first.result (omega arith) (l.counts c.first.result u) c.first.ensures.below c.first.ensures.from)
 
 pub returns-else-x-p : goal.returns-else-x-p
 returns-else-x-p c =
@@ -30,9 +30,9 @@ returns-else-x-p c =
     let r = read l c.deref.result.now c.first.result c.in-Some.x.now c.deref.ensures.0 found.0 found.1 in
     let e0 = ap (λ (x : ℕ × ℕ). x.0) r.1 in
     let u = r.0 in
-    Decides-at _ _ (grind (arith, nat_tests)) (any_is l c.args.p c.args.low c.args.high c.first.result (omega arith) (l.counts c.first.result u) c.first.ensures)
+    Decides-at _ _ (grind (arith, nat_tests)) (any_is l c.args.p c.args.low c.args.high c.first.result (omega arith) (l.counts c.first.result u) c.first.ensures.below c.first.ensures.from)
 
 pub returns-in-None : goal.returns-in-None
 returns-in-None c =
     let past = ltb-false c.first.result (length c.deref.result.now) (sym c.in-None.ensures.lookup.0) in
-    any_none c.args.self.now c.args.p c.args.low c.args.high c.first.result (subst (λ (ys : List (ℕ × ℕ)). length ys ≤ c.first.result) c.deref.ensures.0 past) c.first.ensures
+    any_none c.args.self.now c.args.p c.args.low c.args.high c.first.result (subst (λ (ys : List (ℕ × ℕ)). length ys ≤ c.first.result) c.deref.ensures.0 past) c.first.ensures.below

@@ -1,7 +1,7 @@
 use Rattle.std.proofs.Common.{◌≡◌, ℕ, ◌≤◌, true, false, rules, List, length, sym, ◌∙◌, subst, arith}
 use Rattle.std.specs.List.Sorted.{IsPartitionedBy, IsPartitionPoint}
 use Rattle.std.proofs.lemmas.List.Sorted.{IsPartitionPoint-from_clause}
-use Rattle.list_bank.proofs.Order.{comes_before, parted, first_at, all_before, none_before}
+use Rattle.list_bank.proofs.Order.{is_before, parted, first_at, all_before, none_before}
 use Rattle.list_bank.proofs.pairs.PairList.first.Goals as goal
 use Rattle.list_bank.proofs.pairs.PairList.first.Goals.{in_default-via-in-Some+else-ge, in_default-via-in_default}
 
@@ -12,7 +12,7 @@ returns-in-Some c =
     let i = c.args.i in
     let k = c.partition_point.result in
     let e = c.deref-in-Some.ensures.0 in
-    let before = comes_before l p i (omega arith) in
+    let before = is_before l p i (omega arith) in
     let point = IsPartitionPoint-from_clause before _ _ c.partition_point.ensures.partitioned
     (subst (λ (xs : List (ℕ × ℕ)). IsPartitionedBy before xs) (sym e) (parted l p i (omega arith))) (λ a r q h. search rules) in
     first_at l p i (omega arith) k (subst (λ (xs : List (ℕ × ℕ)). k ≤ length xs) e c.partition_point.ensures.bound)
