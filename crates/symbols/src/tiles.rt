@@ -6,6 +6,7 @@ use alphabets::Colour;
 use refusals::Refusal;
 
 /// A tile: a colour from 0 to 3, written `R`, `G`, `B` or `Y`, and a face from 0 to 9, written as a digit.
+// By numbers, and not by an enum of colours: what is entered and is no tile must have a form, to be refused.
 #[derive(Clone, Copy, PartialEq, Eq, Debug)]
 pub struct Tile {
     pub colour: u8,

@@ -20,6 +20,7 @@ pub struct Place {
 }
 
 /// The places of a pattern, what each one takes, and the links between them. Place 0 is the start.
+// Arrays of 65 with the number of places beside them, and no `Vec`: a plan is fixed memory.
 #[derive(Clone, Copy, PartialEq, Eq, Debug)]
 pub struct Table {
     pub places: usize,
