@@ -12,6 +12,7 @@ pub struct Row {
 }
 
 /// The rows of the places: each begins at a word of its own, after the rows of the places before it.
+// With the number of words in use beside the array: a bank is fixed memory.
 #[derive(Drop)]
 pub struct Rows {
     pub(crate) list: [Row; 65],

@@ -16,6 +16,7 @@ pub(crate) fn fits_each(
 ) -> usize
     ensures { (text : List ℕ) → StandsOn letters bits text [] session.old → FitsTold text row.now fits.old fits.new result }
 {
+    // By the index, which is the answer; `fits` is C's, with a length of its own.
     for (i, letter) in row.iter().enumerate() {
         if i >= fits.len() {
             return i;

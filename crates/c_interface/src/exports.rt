@@ -17,6 +17,7 @@ pub extern "C" fn jothwila_fits(heap: Global, pattern: &[u8], row: &[u8], fits: 
     ensures { FitsAnswered pattern.now row.now fits.old fits.new result }
 {
     let mut plan = Plan::<Letters>::new();
+    // C has no `Result`: where the pattern is refused, no letter was laid.
     if let Err(_) = plan.read(heap, pattern) {
         return 0;
     }

@@ -55,6 +55,7 @@ impl Graph<'_> {
     {
         let mut moved = false;
         let mut end = self.table.places() + 1;
+        // By hand: a block ends where the one behind it begins.
         while end > 0 {
             let lo = self.block(end - 1);
             moved |= self.sweep_block(area, lo, end);

@@ -74,6 +74,7 @@ pub fn describe<K: Kind>(heap: Global, bytes: &[u8]) -> Result<Row, RowRefusal>
 }
 
 /// Describes a row of the kind that was named.
+// By a match: the kind is named as the program runs, and its type has to be known before.
 pub fn describe_as(heap: Global, kind: Alphabet, bytes: &[u8]) -> Result<Row, RowRefusal>
     ensures { DescribedAs kind bytes.now result }
 {
