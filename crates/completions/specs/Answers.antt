@@ -30,7 +30,7 @@ MarksOf t marks = (e : Tree) → WellFormed e → TableOf e t → Labelled e (ma
 
 -- What is told of some marks that are the distances and of the pair of the front f that is nearest by them.
 abbrev pub Told : Table → Pairs → (Bor Marks → Option Found → Type 0) → Type 0
-Told t f Tells = (marks : Bor Marks) × (found : Option Found) × MarksOf t marks.now × ((e : Tree) → TableOf e t → LeastMark (mark_of marks.now) f found) × Tells marks found
+Told t f Says = (marks : Bor Marks) × (found : Option Found) × MarksOf t marks.now × ((e : Tree) → TableOf e t → LeastMark (mark_of marks.now) f found) × Says marks found
 
 -- The answer on a row's need: the need, or 22, STUCK, where no row completes it.
 abbrev pub NeedOf : Tree → List ℕ → Result ℕ Refusal → Type 0
