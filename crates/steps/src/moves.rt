@@ -11,6 +11,8 @@ use banks::{Bank, Raise};
 use refusals::Refusal;
 use tables::{Link, Table};
 
+// Table and bank go side by side: in a struct that lends both, each clause would have to read the bank through it.
+
 // Carries the counts of p to q, if they are linked. A function of its own, as `cross_if`: what it does to the bank is one fact for both
 // cases, where three `if`s in `follow` would have six.
 fn carry_if<B: Bank>(
