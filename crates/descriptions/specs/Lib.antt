@@ -1,3 +1,3 @@
--- The words of the kinds, what the table tells of a place, and what is said of an accepted pattern.
+-- What the table tells of a place, and what is said of an accepted pattern.
 pub mod Told
 pub mod Describes

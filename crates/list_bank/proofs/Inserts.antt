@@ -81,20 +81,11 @@ module _ (l : PairList) (p i k : ℕ) (bound : k ≤ length l.pairs.items)
       let u = s.1 in
       omega arith
 
-  -- with (p, i) put in at k
-  module _ (items : List (ℕ × ℕ)) (is : items ≡ insert l.pairs.items k (p, i)) where
-    same : (m : ℕ) → m < k → slice_index_or items m (0, 0) ≡ slice_index_or l.pairs.items m (0, 0)
-    same m h = ap (λ (xs : List (ℕ × ℕ)). get_or xs m (0, 0)) is ∙ get_or-insert_below l.pairs.items k (p, i) (0, 0) m h bound
-
-    here : get_or items k (0, 0) ≡ (p, i)
-    here = ap (λ (xs : List (ℕ × ℕ)). get_or xs k (0, 0)) is ∙ get_or-insert_at l.pairs.items k (p, i) (0, 0) bound
-
-    up : (m : ℕ) → k ≤ m → m < length l.pairs.items → slice_index_or items (m + 1) (0, 0) ≡ slice_index_or l.pairs.items m (0, 0)
-    up m h u = ap (λ (xs : List (ℕ × ℕ)). get_or xs (m + 1) (0, 0)) is ∙ get_or-insert_above l.pairs.items k (p, i) (0, 0) m h bound
-
-    pub one_more : length items ≡ length l.pairs.items + 1
-    one_more = ap length is ∙ length-insert l.pairs.items k (p, i) bound
-
+  -- with (p, i) put in at k, and the pairs from k on moved up
+  module _ (items : List (ℕ × ℕ))
+      (same : (m : ℕ) → m < k → slice_index_or items m (0, 0) ≡ slice_index_or l.pairs.items m (0, 0))
+      (here : get_or items k (0, 0) ≡ (p, i))
+      (up : (m : ℕ) → k ≤ m → m < length l.pairs.items → slice_index_or items (m + 1) (0, 0) ≡ slice_index_or l.pairs.items m (0, 0)) where
     -- what stands at m now
     now_at : (m : ℕ) → m < length l.pairs.items + 1
         → ((m < k) × (slice_index_or items m (0, 0) ≡ slice_index_or l.pairs.items m (0, 0))) ⊎ (((m ≡ k) × (slice_index_or items m (0, 0) ≡ (p, i))) ⊎ ((k < m) × (slice_index_or items m (0, 0) ≡ slice_index_or l.pairs.items (m - 1) (0, 0))))
@@ -200,8 +191,22 @@ module _ (l : PairList) (p i k : ℕ) (bound : k ≤ length l.pairs.items)
         (Decides-or (listed l.pairs.items (length l.pairs.items) a j) (a == p && j == i) (listed_decides l.pairs.items (length l.pairs.items) a j)
         (Decides-and (a == p) (j == i) (Decides-eqb a p) (Decides-eqb j i)))))
 
+  -- the library's `insert` does so
+  module _ (items : List (ℕ × ℕ)) (is : items ≡ insert l.pairs.items k (p, i)) where
+    same_put : (m : ℕ) → m < k → slice_index_or items m (0, 0) ≡ slice_index_or l.pairs.items m (0, 0)
+    same_put m h = ap (λ (xs : List (ℕ × ℕ)). get_or xs m (0, 0)) is ∙ get_or-insert_below l.pairs.items k (p, i) (0, 0) m h bound
+
+    here_put : get_or items k (0, 0) ≡ (p, i)
+    here_put = ap (λ (xs : List (ℕ × ℕ)). get_or xs k (0, 0)) is ∙ get_or-insert_at l.pairs.items k (p, i) (0, 0) bound
+
+    up_put : (m : ℕ) → k ≤ m → m < length l.pairs.items → slice_index_or items (m + 1) (0, 0) ≡ slice_index_or l.pairs.items m (0, 0)
+    up_put m h u = ap (λ (xs : List (ℕ × ℕ)). get_or xs (m + 1) (0, 0)) is ∙ get_or-insert_above l.pairs.items k (p, i) (0, 0) m h bound
+
+    pub one_more : length items ≡ length l.pairs.items + 1
+    one_more = ap length is ∙ length-insert l.pairs.items k (p, i) bound
+
     pub listed_after : listed items (length items) ≡ (pairs_of l ∪ only p i)
-    listed_after = ap (λ (n : ℕ). listed items n) one_more ∙ listed_more
+    listed_after = ap (λ (n : ℕ). listed items n) one_more ∙ listed_more items same_put here_put up_put
 
 -- a count from low to high is listed at p exactly where the first pair that is not before (p, low) is at p with a count up to high
 pub any_is : (l : PairList) (p low high k : ℕ) → high < 65536 → (get_or l.pairs.items k (0, 0)).1 < 65536

@@ -19,7 +19,7 @@ pub enum ParError {
     #[error("refused {} at {place}", .refusal.number())]
     Refused { refusal: Refusal, place: usize },
     /// Want of memory.
-    #[error("out of memory")]
+    #[error("memory allocation failed")]
     Memory,
 }
 

@@ -10,12 +10,11 @@ use banks::Bank;
 use refusals::Refusal;
 use tables::Table;
 
-// `Fresh` is a premise of what is promised and no `requires`: a public call asks nothing of its callers.
+// `Fresh` is a premise of what is promised, and no `requires` or type: a public call takes any bank and asks nothing of its callers.
 
 /// Makes the step by a code: the front is then what the links give of it at the places that take the code, and the back is
 /// empty. Refused with `Full` where the bank cannot hold the new front; the front then stays. All that is promised of a bank
 /// in standing with the table's widths, a front within them and an empty back, as one is that was just started.
-// By premise, `Fresh ..`, and not by a type: the call takes any bank, and may require nothing.
 pub fn step<B: Bank>(table: &Table, bank: &mut B, code: u8) -> Result<(), Refusal>
     ensures answer { Fresh B.means table.now bank.old → Stepped B.means table.now code bank.old result bank.new }
     ensures relation { Fresh B.means table.now bank.old → IsStep table.now code (B.means.front bank.old) (step_set table.now code (B.means.front bank.old)) }
