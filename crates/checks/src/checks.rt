@@ -11,19 +11,10 @@ use refusals::Refusal;
 pub fn check(n: &Node) -> Result<(), Refusal>
     ensures { Checked (ast_of n.now) result }
 {
-    // By `if let`: a search tells a place, and its refusal takes it; a helper for the four would need a closure for each and be no plainer.
-    if let Some(p) = backward_range(n) {
-        return Err(Refusal::Range(p));
-    }
-    if let Some(p) = empty_class(n) {
-        return Err(Refusal::Empty(p));
-    }
-    if let Some(p) = wrong_bound(n) {
-        return Err(Refusal::Bounds(p));
-    }
-    if let Some(p) = nested(n) {
-        return Err(Refusal::Nested(p));
-    }
+    backward_range(n).map(Refusal::Range).map_or(Ok(()), Err)?;
+    empty_class(n).map(Refusal::Empty).map_or(Ok(()), Err)?;
+    wrong_bound(n).map(Refusal::Bounds).map_or(Ok(()), Err)?;
+    nested(n).map(Refusal::Nested).map_or(Ok(()), Err)?;
     count_places(n)?;
     spend(n, None, 4095).ok_or(Refusal::Counts)?;
     Ok(())
