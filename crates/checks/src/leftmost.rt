@@ -11,10 +11,7 @@ use grammar::{Node, Times};
 fn earlier(a: Option<usize>, b: Option<usize>) -> Option<usize>
     ensures { result ≡ least a b }
 {
-    match (a, b) {
-        (Some(p), Some(q)) => Some(p.min(q)),
-        _ => a.or(b),
-    }
+    a.into_iter().chain(b).min()
 }
 
 /// The leftmost place of a fault, of which `fault` tells what one node shows.
