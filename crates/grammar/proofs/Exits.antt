@@ -1,7 +1,8 @@
 -- What the exit of a `?` answers: the refusal of the inner reader is one of the outer.
-use Rattle.std.proofs.Common.{◌≡◌, ℕ, List, IsErrAnd, Ok, Err, Result, sym, subst}
+use Rattle.std.proofs.Common.{◌≡◌, ℕ, ◌<◌, ◌≤◌, List, length, None, Some, Option, IsErrAnd, Ok, Err, Result, sym, subst, rules}
+use Rattle.std.specs.Option.{MatchOption, ok_or}
 use Rattle.grammar.specs.Ast.{Ast}
-use Rattle.grammar.specs.Grammar.{Pattern}
+use Rattle.grammar.specs.Grammar.{byte, Pattern}
 use Rattle.alphabets.specs.Alphabets.{unit_of}
 use Rattle.grammar.specs.Reading.{AfterPattern, Stops, Reads, Faults, Tells}
 use Rattle.alphabets.specs.declared.Alphabet.{Alphabet}
@@ -59,3 +60,11 @@ told_at a s Stuck h = h
 pub told : (a : Alphabet) (s : List ℕ) (r : Result Node Refusal) (e : Refusal) → IsErrAnd r (λ y. y ≡ e) → Faults Ast (Pattern (unit_of a)) AfterPattern s 0 e → Tells a s r
 told a s (Ok x) e h d = absurd h
 told a s (Err y) e h d = subst (λ v. Tells a s (Err v)) (sym h) (told_at a s e d)
+
+-- a byte that was asked for, and is there or not
+pub was_read : (s : List ℕ) (i : ℕ) (o : Option ℕ) (b : ℕ) → MatchOption o ((length s ≤ i) × (byte s i ≡ 256)) (λ b. (i < length s) × (byte s i ≡ b)) → o ≡ Some b → (i < length s) × (byte s i ≡ b)
+was_read s i o b h e = rw e at h
+
+pub not_read : (s : List ℕ) (i : ℕ) (o : Option ℕ) (x e : Refusal) → MatchOption o ((length s ≤ i) × (byte s i ≡ 256)) (λ b. (i < length s) × (byte s i ≡ b)) → Err e ≡ ok_or o x → (e ≡ x) × (length s ≤ i) × (byte s i ≡ 256)
+not_read s i None x e h k = (search rules, h.0, h.1)
+not_read s i (Some b) x e h k = absurd (search rules)

@@ -26,12 +26,16 @@ unfolding codes_of_tile
 any_tile k = grind (arith, nat_tests)
 
 -- every face of one colour
-pub one_colour : (c v k : ℕ) → (c ≡ 46 → ⊥) → v ≡ colour_of c → v < 4 → (leb (10 * v) k && leb k (10 * v + 9)) && ltb k 64 ≡ codes_of_tile c 46 k
+pub one_colour : (c v k : ℕ) → (c ≡ 46 → ⊥) → v ≡ colour_of c → v < 4 → (leb (10 * v) k && ltb k (10 * v + 10)) ≡ codes_of_tile c 46 k
 unfolding codes_of_tile
 one_colour c v k n e l =
     let d : k ≡ 10 * (k / 10) + k % 10 = omega arith in
     let m : k % 10 < 10 = omega arith in
     grind (arith, nat_tests)
+
+-- the same by the span of its codes
+pub colour_span : (v k : ℕ) → v < 4 → (leb (10 * v) k && leb k (10 * v + 9)) && ltb k 64 ≡ (leb (10 * v) k && ltb k (10 * v + 10))
+colour_span v k l = grind (arith, nat_tests)
 
 -- one face of every colour
 pub one_face : (f k : ℕ) → f < 10 → ((((eqb k f && ltb k 64) || (eqb k (f + 10) && ltb k 64)) || (eqb k (f + 20) && ltb k 64)) || (eqb k (f + 30) && ltb k 64)) ≡ codes_of_tile 46 (48 + f) k

@@ -25,6 +25,7 @@ pub(crate) enum Role {
 }
 
 /// What a byte means.
+// By the unit's length, as `Reader` says.
 fn role_of(unit: usize, b: u8) -> Role
     ensures { Means unit b result }
 {
@@ -59,6 +60,7 @@ impl<'a> Reader<'a> {
     pub(crate) fn role(&self, at: usize) -> Role
         ensures { Means self.now.unit (byte self.now.text.now at) result }
     {
+        // By a match: the closure of a `map_or` would want a clause of its own.
         match self.byte(at) {
             Some(b) => role_of(self.unit, b),
             None => Role::Stop,

@@ -51,9 +51,7 @@ impl<'a> Reader<'a> {
         requires { at ≤ length self.now.text.now }
         ensures { Reads Spelled (Codes × Maybe ℕ) spelled (Body self.now.unit) AfterBody self.now.text.now at at result }
     {
-        let Some(first) = self.byte(at) else {
-            return Err(Refusal::End(at));
-        };
+        let first = self.byte(at).ok_or(Refusal::End(at))?;
         match first {
             b']' => {
                 let nothing = Spelled {
@@ -62,6 +60,7 @@ impl<'a> Reader<'a> {
                 };
                 Ok((nothing, at))
             }
+            // By the unit's length, as `Reader` says.
             _ if self.unit == 2 => self.tiles(at),
             b'a'..=b'z' => self.letters(at, first),
             _ => Err(Refusal::Byte(at)),
@@ -78,9 +77,7 @@ impl<'a> Reader<'a> {
             let (rest, p) = self.body(at + 1)?;
             return Ok((rest.after(letter_codes(from)), p));
         }
-        let Some(to) = self.byte(at + 2) else {
-            return Err(Refusal::End(at + 2));
-        };
+        let to = self.byte(at + 2).ok_or(Refusal::End(at + 2))?;
         match to {
             b'a'..=b'z' => {
                 let (rest, p) = self.body(at + 3)?;
@@ -101,7 +98,7 @@ impl<'a> Reader<'a> {
         Ok((rest.after(first), p))
     }
 
-    /// How many codes there are, by the length of a unit.
+    /// How many codes there are, by the length of a unit, as `Reader` says.
     fn code_count(&self) -> u8
         ensures { result ≡ codes_of self.now.unit }
     {

@@ -20,3 +20,4 @@ mod units;
 
 pub use patterns::read_tree;
 pub use tree::{Node, Times};
+pub use units::colour_codes;

@@ -9,6 +9,7 @@ use refusals::Refusal;
 use std::alloc::Global;
 
 /// One part after another.
+// `cat` and `alt` are two: a clause names the case of the tree.
 pub(crate) fn cat(heap: Global, a: Node, b: Node) -> Result<Node, Refusal>
     ensures { MatchResult result (λ n. ast_of n ≡ ast.cat (ast_of a) (ast_of b)) (λ e. e ≡ Memory) }
 {

@@ -1,5 +1,6 @@
 //! The codes that a unit spells.
-ghost use Rattle.std.specs.Prelude.{◌≡◌, ◌+◌, ◌<◌, ◌≤◌, length, IfSome, IfOk, MatchResult};
+ghost use Rattle.std.specs.Prelude.{◌≡◌, ℕ, ◌+◌, ◌*◌, ◌<◌, ◌≤◌, ◌&&◌, length, IfSome, IfOk, MatchResult, nat_le, nat_lt};
+ghost use Rattle.alphabets.specs.Colours.{number_of};
 ghost use Rattle.bits.specs.Members.{member};
 ghost use Rattle.grammar.specs.Codes.{Codes, LetterUnit, ColourUnit, FaceUnit, codes_of_letter, codes_of_tile};
 ghost use Rattle.grammar.specs.Grammar.{OneUnit, byte};
@@ -21,6 +22,14 @@ pub(crate) fn letter_codes(b: u8) -> Set64
     }
 }
 
+/// The codes of a colour's ten tiles.
+pub fn colour_codes(colour: Colour) -> Set64
+    ensures { (c : ℕ) → member result c ≡ (nat_le (10 * number_of colour) c && nat_lt c (10 * number_of colour + 10)) }
+{
+    let first = 10 * colour.number();
+    Set64::span(first, first + 9)
+}
+
 /// What a colour and a face spell; none leaves that half open.
 fn tile_codes(colour: Option<Colour>, face: Option<u8>) -> Set64
     requires { IfSome face (λ f. f < 10) }
@@ -28,10 +37,7 @@ fn tile_codes(colour: Option<Colour>, face: Option<u8>) -> Set64
 {
     match (colour, face) {
         (None, None) => Set64::below(40),
-        (Some(colour), None) => {
-            let first = 10 * colour.number();
-            Set64::span(first, first + 9)
-        }
+        (Some(colour), None) => colour_codes(colour),
         (None, Some(face)) => Set64::only(face)
             .union(Set64::only(face + 10))
             .union(Set64::only(face + 20))
@@ -42,6 +48,7 @@ fn tile_codes(colour: Option<Colour>, face: Option<u8>) -> Set64
 
 impl<'a> Reader<'a> {
     /// The colour in the first half of a tile's unit; none where that is `.`.
+    // `colour` and `face` are two: the clause of each names its bytes.
     fn colour(&self, at: usize) -> Result<Option<Colour>, Refusal>
         requires { at ≤ length self.now.text.now }
         ensures { MatchResult result (λ c. byte self.now.text.now at ≡ colour_byte c) (λ e. Lacks ColourUnit self.now.text.now at e) }
@@ -49,11 +56,7 @@ impl<'a> Reader<'a> {
         match self.byte(at) {
             None => Err(Refusal::End(at)),
             Some(b'.') => Ok(None),
-            // By a match: the place of the refusal is known here alone.
-            Some(b) => match Colour::try_from(b) {
-                Ok(colour) => Ok(Some(colour)),
-                Err(_) => Err(Refusal::Byte(at)),
-            },
+            Some(b) => Colour::try_from(b).map(Some).map_err(|_| Refusal::Byte(at)),
         }
     }
 

@@ -10,9 +10,8 @@ returns-in-None-None c = rw (c.in-None-None.is-0, c.in-None-None.is-1) (fun_ext 
 
 pub returns-in-Some-None : goal.returns-in-Some-None
 returns-in-Some-None c =
-    let n = c.number-first in
     let l = colour_lem c.in-Some-None.colour in
-    rw (c.in-Some-None.is-0, c.in-Some-None.is-1) (fun_ext (λ k. c.span.ensures k ∙ one_colour (letter_of c.in-Some-None.colour) n.result k l.0 (n.ensures.0 ∙ l.1) n.ensures.1))
+    rw (c.in-Some-None.is-0, c.in-Some-None.is-1) (fun_ext (λ k. c.colour_codes.ensures k ∙ one_colour (letter_of c.in-Some-None.colour) _ k l.0 l.1 l.2))
 
 pub returns-in-None-Some : goal.returns-in-None-Some
 returns-in-None-Some c =

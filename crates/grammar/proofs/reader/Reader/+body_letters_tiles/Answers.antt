@@ -4,17 +4,19 @@ use mathlib.Core.Path.{fun_ext}
 use Rattle.grammar.specs.Codes.{no_codes}
 use Rattle.grammar.specs.Grammar.{byte, Body, nothing, one, range, tiles}
 use Rattle.grammar.specs.Nodes.{spelled}
-use Rattle.grammar.proofs.Exits.{exit}
+use Rattle.grammar.specs.Reading.{AfterBody}
+use Rattle.grammar.proofs.Exits.{exit, refused, was_read, not_read}
 use Rattle.grammar.proofs.Texts.{within}
 use Rattle.grammar.proofs.Spelling.{pair_is}
 use Rattle.grammar.proofs.ClassStops.{body_stops_first, body_stops_after_letter, body_stops_at_high, body_stops_after_range, body_stops_in_tile, body_stops_after_tile}
 use Rattle.grammar.proofs.reader.Reader.+body_letters_tiles.Goals as goal
-use Rattle.grammar.proofs.reader.Reader.+body_letters_tiles.Goals.{letters-in_default-to-via-then-to-lt97, letters-in_default-to-via-else-to-lt97+else-to-lt123}
+use Rattle.grammar.proofs.reader.Reader.+body_letters_tiles.Goals.{letters-in_default-via-then-to-lt97, letters-in_default-via-else-to-lt97+else-to-lt123}
 
-pub body-returns-in_default : goal.body-returns-in_default
-body-returns-in_default t c =
-    let f = c.in_default.ensures.1 in
-    (omega arith, body_stops_first c.requires (λ x. grind (arith, f, x)))
+pub body-returns-in_err-first : goal.body-returns-in_err-first
+body-returns-in_err-first t c =
+    let f = not_read _ _ c.byte.result _ c.in_err-first.field-0.0 c.byte.ensures c.in_err-first.ensures.value in
+    refused (Body c.args.self.now.unit) AfterBody c.args.self.now.text.now c.args.at spelled c.args.at c.from_residual.result _ c.from_residual.ensures.1
+    (rw f.0 (omega arith, body_stops_first c.requires (λ x. grind (arith, f.1, x))))
 
 pub body-returns-in-93 : goal.body-returns-in-93
 body-returns-in-93 t c =
@@ -26,17 +28,17 @@ body-returns-in-93 t c =
       ahead = omega arith;
       inside = c.requires;
       derives = subst (λ x. Body u s i i x) (pair_is (fun_ext (λ k. sym (c.empty.ensures k))) refl) d;
-      after = c.in-Some.ensures.1 ∙ grind arith;
+      after = (was_read _ _ c.byte.result _ c.byte.ensures c.in_ok-first.ensures.ok_part).1 ∙ grind arith;
     }
 
 pub body-returns-in_default-2 : goal.body-returns-in_default-2
 body-returns-in_default-2 t c =
-    let f = c.in-Some.ensures in
+    let f = was_read _ _ c.byte.result _ c.byte.ensures c.in_ok-first.ensures.ok_part in
     (f.0, body_stops_first c.requires (λ x. grind (arith, f.1, x)))
 
 pub body-returns-in_default-2-2 : goal.body-returns-in_default-2-2
 body-returns-in_default-2-2 t c =
-    let f = c.in-Some.ensures in
+    let f = was_read _ _ c.byte.result _ c.byte.ensures c.in_ok-first.ensures.ok_part in
     (f.0, body_stops_first c.requires (λ x. grind (arith, f.1, x)))
 
 pub letters-returns-in_err-rest : goal.letters-returns-in_err-rest
@@ -56,21 +58,23 @@ letters-returns-then-not-next_is t c =
       after = h.after;
     }
 
-pub letters-returns-in_default : goal.letters-returns-in_default
-letters-returns-in_default t c =
+pub letters-returns-in_err-to : goal.letters-returns-in_err-to
+letters-returns-in_err-to t c =
     let s = c.args.self.now.text.now in
     let i = c.args.at in
     let x : byte s (i + 1) ≡ 45 = true-eqb _ _ (sym c.if-not-next_is.false ∙ c.next_is.ensures) in
     let l = within s (i + 1) (omega arith) in
-    let f = c.in_default.ensures.1 in
-    (omega arith, body_stops_at_high c.requires.0 (rw c.requires.1 c.requires.2) x (omega arith) (λ y. omega (arith, f, y.0, y.1)))
+    let f = not_read _ _ c.byte.result _ c.in_err-to.field-0.0 c.byte.ensures c.in_err-to.ensures.value in
+    refused (Body c.args.self.now.unit) AfterBody s i spelled i c.from_residual-in_err-to.result _ c.from_residual-in_err-to.ensures.1
+    (rw f.0 (omega arith, body_stops_at_high c.requires.0 (rw c.requires.1 c.requires.2) x (omega arith) (λ y. omega (arith, f, y.0, y.1))))
 
 pub letters-returns-in_err-rest-in-97-to-122 : goal.letters-returns-in_err-rest-in-97-to-122
 letters-returns-in_err-rest-in-97-to-122 t c =
     let s = c.args.self.now.text.now in
     let i = c.args.at in
     let x : byte s (i + 1) ≡ 45 = true-eqb _ _ (sym c.if-not-next_is.false ∙ c.next_is.ensures) in
-    let f = c.in-Some.ensures.1 in
+    let r = was_read _ _ c.byte.result _ c.byte.ensures c.in_ok-to.ensures.ok_part in
+    let f = r.1 in
     exit spelled i (body_stops_after_range {s = s} c.requires.0 (rw c.requires.1 c.requires.2) x (omega arith, omega arith)) c.from_residual-in_err-rest-in-97-to-122.result c.in_err-rest-in-97-to-122.field-0.0 c.from_residual-in_err-rest-in-97-to-122.ensures.1 c.in_err-rest-in-97-to-122.ensures
 
 pub letters-returns-in_ok-rest-in-97-to-122 : goal.letters-returns-in_ok-rest-in-97-to-122
@@ -78,21 +82,23 @@ letters-returns-in_ok-rest-in-97-to-122 t c =
     let s = c.args.self.now.text.now in
     let i = c.args.at in
     let h = c.in_ok-rest-in-97-to-122.ensures in
+    let r = was_read _ _ c.byte.result _ c.byte.ensures c.in_ok-to.ensures.ok_part in
     let x : byte s (i + 1) ≡ 45 = true-eqb _ _ (sym c.if-not-next_is.false ∙ c.next_is.ensures) in
     record {
       ahead = omega (arith, h.ahead);
       inside = h.inside;
-      derives = rw c.after_range.ensures (range c.requires.0 c.requires.1 c.requires.2 x c.in-Some.ensures.1 (omega arith, omega arith) h.derives);
+      derives = rw c.after_range.ensures (range c.requires.0 c.requires.1 c.requires.2 x r.1 (omega arith, omega arith) h.derives);
       after = h.after;
     }
 
-pub letters-returns-in_default-to : goal.letters-returns-in_default-to
-letters-returns-in_default-to t c =
+pub letters-returns-in_default : goal.letters-returns-in_default
+letters-returns-in_default t c =
     let s = c.args.self.now.text.now in
     let i = c.args.at in
-    let f = c.in-Some.ensures.1 in
+    let r = was_read _ _ c.byte.result _ c.byte.ensures c.in_ok-to.ensures.ok_part in
+    let f = r.1 in
     let x : byte s (i + 1) ≡ 45 = true-eqb _ _ (sym c.if-not-next_is.false ∙ c.next_is.ensures) in
-    (c.in-Some.ensures.0, body_stops_at_high c.requires.0 (rw c.requires.1 c.requires.2) x (omega arith) (λ y. elim c.in_default-to.branch [ letters-in_default-to-via-then-to-lt97 w ↦ omega (arith, f, y.0, y.1, w) | letters-in_default-to-via-else-to-lt97+else-to-lt123 w ↦ omega (arith, f, y.0, y.1, w) ]))
+    (r.0, body_stops_at_high c.requires.0 (rw c.requires.1 c.requires.2) x (omega arith) (λ y. elim c.in_default.branch [ letters-in_default-via-then-to-lt97 w ↦ omega (arith, f, y.0, y.1, w) | letters-in_default-via-else-to-lt97+else-to-lt123 w ↦ omega (arith, f, y.0, y.1, w) ]))
 
 pub tiles-returns-in_err-first : goal.tiles-returns-in_err-first
 tiles-returns-in_err-first t c =
