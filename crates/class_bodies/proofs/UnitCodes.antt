@@ -73,11 +73,7 @@ codes_of_tile_lem colour face c k =
 
 -- All tiles of a colour.
 pub colour_codes : (colour : Colour) (c : ℕ) → codes_of_tile (letter_of colour) 46 c ≡ (leb (10 * number_of colour) c && ltb c (10 * number_of colour + 10))
-colour_codes colour c =
-    let l = colour_lem colour in
-    let below = l.2 in
-    sym (one_colour (letter_of colour) (number_of colour) c l.0 l.1 l.2)
-    ∙ (let y : ((leb (10 * number_of colour) c && leb c (10 * number_of colour + 9)) && ltb c 64) ≡ (leb (10 * number_of colour) c && ltb c (10 * number_of colour + 10)) = grind (arith, nat_tests) in y)
+colour_codes colour c = let l = colour_lem colour in sym (one_colour (letter_of colour) (number_of colour) c l.0 l.1 l.2)
 
 -- No more codes.
 pub nothing_more : (u : ℕ) (s : List ℕ) (f : ℕ → Bool) → ((c : ℕ) → f c ≡ false) → SpellsMore u s s f
@@ -87,11 +83,7 @@ nothing_more u s f none before old = codes_like u s before _ (λ c. or_false (be
     or_false true y e = refl
     or_false false y e = sym e
 
--- The codes of a colour within a set, and a code of them.
-pub in_span : (m s : Bool) (c first : ℕ) → first ≤ 30 → s ≡ ((leb first c && leb c (first + 9)) && ltb c 64) → (m && s) ≡ (m && (leb first c && ltb c (first + 10)))
-in_span true s c first h is = grind (arith, nat_tests)
-in_span false s c first h is = refl
-
+-- A code of a colour within a set.
 pub in_colour : (m : Bool) (c first : ℕ) → (m && (leb first c && ltb c (first + 10))) ≡ true → (first ≤ c) × (c < first + 10)
 in_colour true c first e = (grind (arith, nat_tests), grind (arith, nat_tests))
 in_colour false c first e = absurd (false≢true e)
@@ -113,11 +105,11 @@ pub none_left : (m left : Bool) → left ≡ false → (m && not left) ≡ m
 none_left true left e = rw e refl
 none_left false left e = refl
 
--- All ten faces are in the set m: nothing is left (d) of the span (s) of their codes without it.
-pub all_faces : (s d m : Bool) (c first : ℕ) → first ≤ 30 → s ≡ ((leb first c && leb c (first + 9)) && ltb c 64) → d ≡ (s && not m) → d ≡ false
-    → (leb first c && ltb c (first + 10)) ≡ (m && (leb first c && ltb c (first + 10)))
-all_faces s d true c first h is left none = refl
-all_faces s d false c first h is left none = grind (arith, nat_tests)
+-- All faces (s) are in the set m: nothing is left (d) of them without it.
+pub all_faces : (s d m : Bool) → d ≡ (s && not m) → d ≡ false → s ≡ (m && s)
+all_faces s d true left none = refl
+all_faces true d false left none = sym left ∙ none
+all_faces false d false left none = refl
 
 -- The colours so far, and one more.
 pub colours_codes : (b : Bool) (c colour : ℕ)

@@ -7,6 +7,7 @@ ghost use Rattle.class_bodies.specs.ClassBody.{SpellsCodes, SpellsMore, codes_of
 
 use alphabets::{Alphabet, Colour};
 use bits::Set64;
+use grammar::colour_codes;
 use std::alloc::{AllocError, Global};
 
 // The first number from `low` on that is not in the set, or 26 where all numbers from `low` to 25 are.
@@ -58,9 +59,8 @@ fn push_tile(body: &mut Vec<u8>, colour: Colour, face: u8) -> Result<(), AllocEr
 fn push_faces(body: &mut Vec<u8>, codes: Set64, colour: Colour) -> Result<(), AllocError>
     ensures { OnOk result (SpellsMore 2 body.old.items body.new.items (codes_of_colour codes colour)) }
 {
-    let first = 10 * colour.number();
-    for code in codes.intersection(Set64::span(first, first + 9)) {
-        push_tile(body, colour, b'0' + (code - first))?;
+    for code in codes.intersection(colour_codes(colour)) {
+        push_tile(body, colour, b'0' + code % 10)?;
     }
     Ok(())
 }
@@ -69,9 +69,7 @@ fn push_faces(body: &mut Vec<u8>, codes: Set64, colour: Colour) -> Result<(), Al
 fn push_colour(body: &mut Vec<u8>, codes: Set64, colour: Colour) -> Result<(), AllocError>
     ensures { OnOk result (SpellsMore 2 body.old.items body.new.items (codes_of_colour codes colour)) }
 {
-    let first = 10 * colour.number();
-    let all = Set64::span(first, first + 9);
-    if all.difference(codes).is_empty() {
+    if colour_codes(colour).difference(codes).is_empty() {
         push_tile(body, colour, b'.')
     } else {
         push_faces(body, codes, colour)
