@@ -26,9 +26,10 @@ impl Set64 {
     pub fn below(n: u8) -> Set64
         ensures { (k : ℕ) → member result k ≡ (nat_lt k n && nat_lt k 64) }
     {
-        match 1u64.checked_shl(u32::from(n)) {
-            Some(end) => Set64 { bits: end - 1 },
-            None => Set64 { bits: u64::MAX },
+        Set64 {
+            bits: 1u64
+                .checked_shl(u32::from(n))
+                .map_or(u64::MAX, |end| end - 1),
         }
     }
 
