@@ -32,6 +32,7 @@ impl Colour {
     }
 
     /// The number of the colour, below 4.
+    // By name: `TryFrom<u8>` reads the letter.
     pub fn number(self) -> u8
         ensures { (result ≡ number_of self) × (result < 4) }
     {
@@ -44,6 +45,7 @@ impl Colour {
     }
 
     /// The colour of a number; none from 4 on.
+    // By name: `TryFrom<u8>` reads the letter.
     pub fn numbered(number: u8) -> Option<Colour>
         ensures { MatchOption result (4 ≤ number) (λ c. number_of c ≡ number) }
     {

@@ -41,9 +41,7 @@ fn describe_tree<'a>(
     requires { Accepted kind pattern.now (ast_of node.now) }
     ensures { MatchResult result (λ d. Describes kind pattern.now d) (λ e. RefusedText kind pattern.now e) }
 {
-    let Some(table) = table_of(node) else {
-        unreachable()
-    };
+    let table = table_of(node).unwrap();
     let places = places_of(heap, kind, node, &table)?;
     let counts = counts_used(&table);
     Ok(Description {

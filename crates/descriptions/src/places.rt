@@ -20,7 +20,7 @@ pub(crate) fn counts_used(table: &Table) -> usize
 }
 
 // What the table says of the place p, which stands at this byte.
-// Heap, kind and table are handed on singly: a struct for them would serve this function and the next alone.
+// Heap, kind and table are handed on singly: in a struct, each clause would read kind and table through it.
 fn place_at(
     heap: Global,
     kind: Alphabet,

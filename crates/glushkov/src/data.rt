@@ -3,6 +3,7 @@ ghost use Rattle.std.specs.Prelude.{◌≡◌, length};
 use tables::{Place, PlaceSet};
 
 // What a pass over the tree writes: each place, and its width.
+// Widths stand apart: banks and layouts take them whole.
 #[derive(Clone, Copy)]
 pub(crate) struct Counts {
     pub(crate) each: [Place; 65],

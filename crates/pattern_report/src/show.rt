@@ -4,6 +4,8 @@ use refusals::Refusal;
 use std::fmt;
 use tables::{Link, Table};
 
+// By functions: a crate gives no `Display` to another's types.
+
 // Bytes as text; one that has no glyph of its own as `?`.
 fn show_bytes<W: fmt::Write>(bytes: &[u8], f: &mut fmt::Formatter<W>) -> fmt::Result {
     for b in bytes {
@@ -54,15 +56,6 @@ fn show_place<W: fmt::Write>(place: &Place, f: &mut fmt::Formatter<W>) -> fmt::R
     Ok(())
 }
 
-// A link, by its name.
-fn link_name(link: Link) -> &'static str {
-    match link {
-        Link::Within => "within",
-        Link::Next => "next",
-        Link::Cross => "cross",
-    }
-}
-
 // The links from the place p, on a line of their own.
 fn show_links<W: fmt::Write>(table: &Table, p: usize, f: &mut fmt::Formatter<W>) -> fmt::Result {
     let mut some = false;
@@ -79,7 +72,7 @@ fn show_links<W: fmt::Write>(table: &Table, p: usize, f: &mut fmt::Formatter<W>)
         some = true;
         for link in [Link::Within, Link::Next, Link::Cross] {
             if links.has(link) {
-                write!(f, " {}", link_name(link))?;
+                write!(f, " {link}")?;
             }
         }
     }

@@ -15,7 +15,7 @@ use tables::Table;
 pub fn alphabet<K: Kind>() -> Alphabet
     ensures { result ≡ alphabet_of K.Kind }
 {
-    // By the number: of how its symbols are written a kind tells only how long a unit is.
+    // By the number: a kind tells its unit length, and its law `alphabet` the alphabet by it.
     if K::unit_length() == 1 {
         Alphabet::Letters
     } else {

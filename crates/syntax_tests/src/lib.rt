@@ -14,6 +14,7 @@ mod tests {
     use syntax::parse;
 
     // The number and the place of the refusal of a text; 0 and 0 where it is read.
+    // By number: it is the number by which a refusal is known outside.
     fn answer(heap: Global, alphabet: Alphabet, text: &[u8]) -> (u8, usize) {
         match parse(heap, alphabet, text) {
             Ok(_) => (0, 0),
@@ -205,10 +206,8 @@ mod tests {
     fn deep_groups(rt: HostRuntime) -> Result<(), Fail> {
         let h = rt.alloc();
         let mut text = [b'a'; 501];
-        for i in 0..250 {
-            text[i] = b'(';
-            text[500 - i] = b')';
-        }
+        text[..250].fill(b'(');
+        text[251..].fill(b')');
         assert_eq!(rt; answer(h, Alphabet::Letters, &text), (0, 0));
         text[500] = b'|';
         assert_eq!(rt; answer(h, Alphabet::Letters, &text), (3, 501));

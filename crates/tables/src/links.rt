@@ -2,6 +2,8 @@ ghost use Rattle.std.specs.Prelude.{◌≡◌, ℕ, ◌^◌, not, bit_and, bit_o
 ghost use Rattle.bits.specs.Bit.{bit};
 ghost use Rattle.tables.specs.Masks.{mask_of, has_link};
 
+use std::fmt;
+
 /// A link from one place to another: what it does to a count there.
 #[derive(Clone, Copy, PartialEq, Eq, Debug)]
 pub enum Link {
@@ -11,6 +13,16 @@ pub enum Link {
     Next,
     /// Count i goes to 1, from the low on.
     Cross,
+}
+
+impl fmt::Display for Link {
+    fn fmt<W: fmt::Write>(&self, f: &mut fmt::Formatter<W>) -> fmt::Result {
+        f.write_str(match self {
+            Link::Within => "within",
+            Link::Next => "next",
+            Link::Cross => "cross",
+        })
+    }
 }
 
 impl Link {

@@ -35,10 +35,7 @@ impl Table {
     pub fn codes_at(&self, p: usize) -> Set64
         ensures { (c : ℕ) → member result c ≡ takes self.now p c }
     {
-        match self.each.get(p) {
-            Some(place) => place.codes,
-            None => Set64::empty(),
-        }
+        self.each.get(p).map_or(Set64::empty(), |place| place.codes)
     }
 
     /// The width of the place p, and 0 where there is no such place.

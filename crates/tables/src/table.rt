@@ -27,6 +27,7 @@ pub struct Table {
     pub nullable: bool,
     pub lasts: PlaceSet,
     pub each: [Place; 65],
+    // Widths stand apart: banks and layouts take them whole.
     pub widths: Widths,
     pub links: [LinkRow; 65],
     ghost few: { places ≤ 64 },

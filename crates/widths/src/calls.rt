@@ -14,7 +14,7 @@ fn total(widths: &[u16]) -> u32
 impl Widths {
     /// The widths as given, by place, or `None` where they break a rule: the start's is 1, each is at most 1,000,
     /// and together they are at most 4,096.
-    // An `Option`: a `TryFrom` would need an error that tells nothing more.
+    // An `Option`: its callers ask only whether there are widths, and have no error to hand on.
     pub fn of(given: &[u16; 65]) -> Option<Widths>
         ensures { MatchOption result (Sound given.now → ⊥) (λ w. (Sound given.now) × ((p : ℕ) → width_of w p ≡ slice_index given.now p)) }
     {
