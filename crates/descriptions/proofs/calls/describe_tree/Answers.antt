@@ -14,7 +14,7 @@ returns-in_err-places c =
 pub returns : goal.returns
 returns c =
     let t = ast_of c.args.node.now in
-    let of = c.in-Some.ensures in
+    let of = rw c.unwrap-table.ensures at c.table_of.ensures in
     let told = c.in_ok-places.ensures in
     let many = told.0 ∙ length_places_of t in
     record {
@@ -25,5 +25,5 @@ returns c =
       table = of;
       counts = c.counts_used-counts.ensures (tree_of t) of;
       many = many;
-      each = λ k x h. place_told c.args.kind t c.in-Some.table k _ of c.requires.codes h (told.1 k x (omega (arith, many)));
+      each = λ k x h. place_told c.args.kind t c.unwrap-table.result k _ of c.requires.codes h (told.1 k x (omega (arith, many)));
     }
