@@ -41,7 +41,7 @@ impl Link {
 /// A set of links, kept as a mask: each link has a bit of its own.
 #[derive(Clone, Copy, PartialEq, Eq, Debug)]
 pub struct Links {
-    pub(crate) mask: u8,
+    pub mask: u8,
 }
 
 impl Links {
