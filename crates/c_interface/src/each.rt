@@ -21,7 +21,7 @@ pub(crate) fn fits_each(
         if i >= fits.len() {
             return i;
         }
-        if let Err(_) = session.lay(*letter) {
+        if session.lay(*letter).is_err() {
             return i;
         }
         let yes = session.fits();

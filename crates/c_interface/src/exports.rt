@@ -4,11 +4,8 @@ use crate::each::fits_each;
 use crate::needs::need_of_row;
 use banks::Bank;
 use bit_bank::BitBank;
-use plans::Plan;
-use refusals::Refusal;
-use sessions::open;
+use sessions::open_on;
 use std::alloc::Global;
-use symbols::Letters;
 
 /// Lays the letters of a row on a pattern, and behind each one writes 1 into `fits` where the row so far fits, else 0. Answers how many were laid: as
 /// many as there is room for, up to the first byte that is no letter; none where the pattern is refused.
@@ -16,12 +13,10 @@ use symbols::Letters;
 pub extern "C" fn jothwila_fits(heap: Global, pattern: &[u8], row: &[u8], fits: &mut [u8]) -> usize
     ensures { FitsAnswered pattern.now row.now fits.old fits.new result }
 {
-    let mut plan = Plan::<Letters>::new();
     // C has no `Result`: where the pattern is refused, no letter was laid.
-    if let Err(_) = plan.read(heap, pattern) {
+    let Ok(mut session) = open_on(heap, pattern, BitBank::new()) else {
         return 0;
-    }
-    let mut session = open(plan, BitBank::new());
+    };
     fits_each(&mut session, row, fits)
 }
 

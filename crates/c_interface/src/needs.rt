@@ -9,9 +9,8 @@ ghost use Rattle.sessions.specs.Sessions.{StandsOn, NeedTold};
 
 use banks::Bank;
 use bit_bank::BitBank;
-use plans::Plan;
 use refusals::Refusal;
-use sessions::{Session, open};
+use sessions::{Session, open_on};
 use std::alloc::Global;
 use symbols::Letters;
 
@@ -39,12 +38,8 @@ pub(crate) fn need_of_row(
 ) -> Result<u16, Refusal>
     ensures { MatchResult result (λ n. IsAccepted pattern.now × NeedIs letters pattern.now row.now n) (λ _. NoNeed pattern.now row.now) }
 {
-    let mut plan = Plan::<Letters>::new();
-    plan.read(heap, pattern)?;
-    let mut session = open(plan, BitBank::new());
-    if let Err(e) = session.lay_row(row) {
-        return Err(e.refusal);
-    }
+    let mut session = open_on(heap, pattern, BitBank::new())?;
+    session.lay_row(row).map_err(|e| e.refusal)?;
     let mut area = [0; 4096];
     need_again(&session, &mut area, again)
 }

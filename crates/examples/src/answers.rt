@@ -3,9 +3,8 @@ use bit_bank::BitBank;
 use list_bank::ListBank;
 use mask_layer::MaskLayer;
 use par_report::Par;
-use plans::Plan;
 use refusals::Refusal;
-use sessions::{Session, open};
+use sessions::{Session, open_on};
 use std::alloc::{AllocError, Global};
 use symbol_rows::{RowRefusal, read_row};
 use symbols::Kind;
@@ -14,44 +13,34 @@ use thiserror::Error;
 // Why nothing is told of a pattern and a row.
 #[derive(Clone, Copy, PartialEq, Eq, Debug, Error)]
 enum NoAnswer {
-    #[error("refused {} at {place}", .refusal.number())]
-    Refused { refusal: Refusal, place: usize },
+    #[error("refused {} at {}", .0.number(), .0.place().unwrap_or(0))]
+    Text(#[from] Refusal),
+    #[error("{0}")]
+    Row(#[from] RowRefusal),
     #[error("hints do not lead to the end of the row")]
     Misled,
 }
 
-impl From<Refusal> for NoAnswer {
-    fn from(refusal: Refusal) -> NoAnswer {
-        NoAnswer::Refused {
-            refusal,
-            place: refusal.place().unwrap_or(0),
-        }
-    }
-}
-
-impl From<RowRefusal> for NoAnswer {
-    fn from(refused: RowRefusal) -> NoAnswer {
-        NoAnswer::Refused {
-            refusal: refused.refusal,
-            place: refused.before,
-        }
-    }
-}
-
-// Whether following hints makes the row fit after so many symbols, and not before.
-fn hints_lead<K: Kind, B: Bank>(session: &mut Session<K, B>, area: &mut [u16], need: u16) -> bool {
+// Follows hints: the row must fit after so many symbols, and not before.
+fn hints_lead<K: Kind, B: Bank>(
+    session: &mut Session<K, B>,
+    area: &mut [u16],
+    need: u16,
+) -> Result<(), NoAnswer> {
     for _ in 0..need {
         if session.fits() {
-            return false;
+            return Err(NoAnswer::Misled);
         }
-        let Ok(symbol) = session.hint(area) else {
-            return false;
-        };
+        let symbol = session.hint(area).map_err(|_| NoAnswer::Misled)?;
         if session.lay(symbol).is_err() {
-            return true; // the bank is full: no more is promised
+            return Ok(()); // the bank is full: no more is promised
         }
     }
-    session.fits()
+    if session.fits() {
+        Ok(())
+    } else {
+        Err(NoAnswer::Misled)
+    }
 }
 
 // What is told of the row of a session, whose hints are then followed.
@@ -61,18 +50,16 @@ fn tell<K: Kind, B: Bank>(session: &mut Session<K, B>) -> Result<Par, NoAnswer> 
         fits: session.fits(),
         need: session.need(&mut area).ok(),
     };
-    match par.need {
-        Some(need) if !hints_lead(session, &mut area, need) => Err(NoAnswer::Misled),
-        _ => Ok(par),
+    if let Some(need) = par.need {
+        hints_lead(session, &mut area, need)?;
     }
+    Ok(par)
 }
 
 // What is told of a pattern and a row over one bank.
 fn answer<K: Kind, B: Bank>(heap: Global, pattern: &[u8], row: &[u8]) -> Result<Par, NoAnswer> {
-    let mut plan = Plan::<K>::new();
-    plan.read(heap, pattern)?;
+    let mut session = open_on::<K, B>(heap, pattern, B::new())?;
     let symbols = read_row::<K>(heap, row)?;
-    let mut session = open(plan, B::new());
     session.lay_row(symbols.as_slice())?;
     tell(&mut session)
 }

@@ -19,9 +19,9 @@ use symbols::{Letters, Tiles};
 fn run(heap: Global, line: &[u8]) -> anyhow::Result<String> {
     let (kind, rest) = split_once(line, b' ');
     let (pattern, row) = split_once(rest, b' ');
-    let said = match Alphabet::try_from(kind) {
-        Ok(Alphabet::Tiles) => over_banks::<Tiles>(heap, pattern, row)?,
-        _ => over_banks::<Letters>(heap, pattern, row)?,
+    let said = match Alphabet::try_from(kind).unwrap_or(Alphabet::Letters) {
+        Alphabet::Letters => over_banks::<Letters>(heap, pattern, row)?,
+        Alphabet::Tiles => over_banks::<Tiles>(heap, pattern, row)?,
     };
     let shown = as_text(heap, line)?;
     Ok(format!(in heap; "{shown}: {said}")?)
@@ -30,6 +30,7 @@ fn run(heap: Global, line: &[u8]) -> anyhow::Result<String> {
 fn main(rt: HostRuntime) -> anyhow::Result<()> {
     let bytes = read_input(rt.alloc(), rt.stdin())?;
     let mut rest = bytes.as_slice();
+    // By `while`: `first_line` parts off one line at a time.
     while !rest.is_empty() {
         let (line, more) = first_line(rest);
         let said = run(rt.alloc(), line)?;

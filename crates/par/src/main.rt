@@ -9,7 +9,7 @@ fn main(rt: HostRuntime) -> anyhow::Result<()> {
     let bytes = read_input(rt.alloc(), rt.stdin())?;
     match report_par(rt.alloc(), bytes.as_slice()) {
         Ok(par) => println!(rt; "{par}")?,
-        Err(ParError::Memory) => return Err(ParError::Memory.into()),
+        Err(e @ ParError::Memory) => return Err(e.into()),
         Err(refused) => println!(rt; "{refused}")?,
     }
     Ok(())

@@ -28,6 +28,7 @@ fn tell(session: &Session<Letters, BitBank>) -> Par
 }
 
 // The refusal of a pattern; one without a place is want of memory.
+// No `From`: only of a pattern's refusal does one without a place mean want of memory.
 fn refuse(e: Refusal) -> ParError
     ensures { (text row : List ℕ) → RefusedText InLetters text e → Judged text row (Err result) }
 {

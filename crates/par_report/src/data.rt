@@ -23,6 +23,7 @@ pub enum ParError {
     Memory,
 }
 
+// By hand: the `From` that `#[from]` writes promises nothing.
 impl From<RowRefusal> for ParError {
     ghost from_gives = { λ r e. e ≡ Refused r.refusal r.before };
 

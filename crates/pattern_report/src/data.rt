@@ -20,6 +20,7 @@ pub enum ReportError<'a> {
     UnknownKind,
 }
 
+// By hand: the `From` that `#[from]` writes promises nothing.
 impl<'a> From<UnknownAlphabet> for ReportError<'a> {
     ghost from_gives = { λ _ e. e ≡ NoKind };
 

@@ -47,6 +47,7 @@ pub enum ReportError {
     UnknownKind,
 }
 
+// By hand: the `From` that `#[from]` writes promises nothing.
 impl From<RowRefusal> for ReportError {
     ghost from_gives = { λ r e. e ≡ Refused r };
 
@@ -55,6 +56,7 @@ impl From<RowRefusal> for ReportError {
     }
 }
 
+// By hand: the `From` that `#[from]` writes promises nothing.
 impl From<UnknownAlphabet> for ReportError {
     ghost from_gives = { λ _ e. e ≡ UnknownKind };
 
@@ -98,14 +100,14 @@ impl fmt::Display for Row {
     fn fmt<W: fmt::Write>(&self, f: &mut fmt::Formatter<W>) -> fmt::Result {
         let count = self.codes.len();
         write!(f, "symbols: {count}\ncodes:")?;
-        for c in self.codes.iter() {
+        for c in &self.codes {
             write!(f, " {c}")?;
         }
         write!(f, "\nrow:")?;
         if count > 0 {
             write!(f, " ")?;
         }
-        for b in self.spelled.iter() {
+        for b in &self.spelled {
             let c = *b as char;
             write!(f, "{c}")?;
         }

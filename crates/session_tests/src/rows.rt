@@ -2,9 +2,8 @@ use banks::Bank;
 use bit_bank::BitBank;
 use list_bank::ListBank;
 use mask_layer::MaskLayer;
-use plans::Plan;
 use refusals::Refusal;
-use sessions::{Session, open};
+use sessions::{Session, open, open_on};
 use std::alloc::Global;
 use std::process::Abort;
 use std::test::Fail;
@@ -71,9 +70,7 @@ pub(crate) fn session<K: Kind, B: Bank>(
     heap: Global,
     pattern: &[u8],
 ) -> Result<Session<K, B>, Fail> {
-    let mut plan = Plan::<K>::new();
-    plan.read(heap, pattern)?;
-    Ok(open(plan, B::new()))
+    Ok(open_on(heap, pattern, B::new())?)
 }
 
 // Follows hints from a row that lacks so many symbols: it must fit after just as many, and not before.

@@ -5,6 +5,9 @@ use Rattle.refusals.specs.declared.Refusal.TheVariants.{Full, Complete}
 use Rattle.symbols.specs.declared.kind.Kind.{Ghosts as KindGhosts}
 use Rattle.symbol_rows.specs.declared.row.RowRefusal.{RowRefusal}
 use Rattle.banks.specs.declared.Bank.{Ghosts as BankGhosts}
+use Rattle.widths.specs.Width.{width_of}
+use Rattle.banks.specs.Meaning.{Started}
+use Rattle.plans.specs.Plans.{PlanOf}
 use Rattle.completions.specs.Answers.{FullArea}
 use Rattle.sessions.specs.declared.session.Session.{Session}
 use Rattle.sessions.specs.RowLanguage.{Belongs, NeedIs}
@@ -50,3 +53,9 @@ module _ {K S B : Type 0} (k : KindGhosts K S) (d : BankGhosts B) where
   -- Whatever list of calls was made on the session, also none: it is right for the row that they laid.
   abbrev pub EveryRun : List ℕ → Session K B → Type 0
   EveryRun text s = (log : List (Call S)) (t : Session K B) → Run s log t → RightAt text (row_of log) t
+
+  -- What holds of a session that was opened on a text: its plan is the text's, its bank is started, and every list of calls goes right.
+  pub record OpenedOn (text : List ℕ) (s : Session K B) : Type 0 where
+    pub plan_of : PlanOf k text s.plan
+    pub started : Started d.means (width_of s.plan.table.widths) s.bank
+    pub right : EveryRun text s

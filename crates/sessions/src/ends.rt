@@ -1,12 +1,14 @@
-ghost use Rattle.std.specs.Prelude.{◌≡◌, ℕ, List};
+ghost use Rattle.std.specs.Prelude.{◌≡◌, ℕ, List, MatchResult};
 ghost use Rattle.widths.specs.Width.{width_of};
 ghost use Rattle.banks.specs.Meaning.{Started};
-ghost use Rattle.plans.specs.Plans.{PlanOf};
-ghost use Rattle.sessions.specs.Runs.{EveryRun};
+ghost use Rattle.plans.specs.Plans.{RefusedText, alphabet_of, PlanOf};
+ghost use Rattle.sessions.specs.Runs.{EveryRun, OpenedOn};
 
 use crate::session::Session;
 use banks::Bank;
 use plans::Plan;
+use refusals::Refusal;
+use std::alloc::Global;
 use symbols::Kind;
 
 // Starts a bank with the widths of a plan.
@@ -35,6 +37,16 @@ pub fn open<K: Kind, B: Bank>(plan: Plan<K>, mut bank: B) -> Session<K, B>
 {
     restart(&plan, &mut bank);
     session_on(plan, bank)
+}
+
+/// Opens a session on the plan of a text, or tells why the text is refused. The bank is started; what it held does not matter.
+/// Whatever list of calls follows, the answers are right for the row that the calls laid.
+pub fn open_on<K: Kind, B: Bank>(heap: Global, text: &[u8], bank: B) -> Result<Session<K, B>, Refusal>
+    ensures { MatchResult result (λ s. OpenedOn K.Kind B.Bank text.now s) (λ e. RefusedText (alphabet_of K.Kind) text.now e) }
+{
+    let mut plan = Plan::new();
+    plan.read(heap, text)?;
+    Ok(open(plan, bank))
 }
 
 impl<K: Kind, B: Bank> Session<K, B> {

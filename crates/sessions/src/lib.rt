@@ -17,5 +17,5 @@ mod ends;
 mod rows;
 mod session;
 
-pub use ends::open;
+pub use ends::{open, open_on};
 pub use session::Session;

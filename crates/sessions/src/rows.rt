@@ -10,10 +10,9 @@ impl<K: Kind, B: Bank> Session<K, B> {
     pub fn lay_row(&mut self, row: &[K::Symbol]) -> Result<(), RowRefusal>
         ensures { RowLaid K.Kind B.Bank self.old row.now result self.new }
     {
-        for (i, symbol) in row.iter().enumerate() {
-            if let Err(refusal) = self.lay(*symbol) {
-                return Err(RowRefusal { refusal, before: i });
-            }
+        for (before, symbol) in row.iter().enumerate() {
+            self.lay(*symbol)
+                .map_err(|refusal| RowRefusal { refusal, before })?;
         }
         Ok(())
     }

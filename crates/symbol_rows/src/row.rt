@@ -15,6 +15,16 @@ pub struct RowRefusal {
     pub before: usize,
 }
 
+// The refusal behind so many symbols.
+fn behind<E: Into<Refusal>>(e: E, before: usize) -> RowRefusal
+    ensures { E.converts e result.refusal × (result.before ≡ before) }
+{
+    RowRefusal {
+        refusal: e.into(),
+        before,
+    }
+}
+
 /// The row that these bytes spell, or refusal 10 at the first unit that is none (also one that is cut off).
 pub fn read_row<K: Kind>(heap: Global, text: &[u8]) -> Result<Vec<K::Symbol>, RowRefusal>
     ensures { MatchResult result (λ row. Spells K.Kind text.now row.items) (λ e. ReadRefused K.Kind text.now e) }
@@ -22,11 +32,8 @@ pub fn read_row<K: Kind>(heap: Global, text: &[u8]) -> Result<Vec<K::Symbol>, Ro
     let mut row = Vec::new(heap);
     for unit in text.chunks(K::unit_length()) {
         let before = row.len();
-        let symbol = K::unspell(unit).map_err(|refusal| RowRefusal { refusal, before })?;
-        row.push(symbol).map_err(|failed| RowRefusal {
-            refusal: Refusal::from(failed),
-            before,
-        })?;
+        let symbol = K::unspell(unit).map_err(|e| behind(e, before))?;
+        row.push(symbol).map_err(|e| behind(e, before))?;
     }
     Ok(row)
 }
@@ -37,13 +44,10 @@ pub fn spell_row<K: Kind>(heap: Global, row: &[K::Symbol]) -> Result<Vec<u8>, Ro
 {
     let mut bytes = Vec::new(heap);
     for (before, symbol) in row.iter().enumerate() {
-        let spelled = K::spell(*symbol).map_err(|refusal| RowRefusal { refusal, before })?;
+        let spelled = K::spell(*symbol).map_err(|e| behind(e, before))?;
         bytes
             .extend_from_slice(&spelled[..K::unit_length()])
-            .map_err(|failed| RowRefusal {
-                refusal: Refusal::from(failed),
-                before,
-            })?;
+            .map_err(|e| behind(e, before))?;
     }
     Ok(bytes)
 }
@@ -54,11 +58,8 @@ pub fn row_codes<K: Kind>(heap: Global, row: &[K::Symbol]) -> Result<Vec<u8>, Ro
 {
     let mut codes = Vec::new(heap);
     for (before, symbol) in row.iter().enumerate() {
-        let code = K::code_of(*symbol).map_err(|refusal| RowRefusal { refusal, before })?;
-        codes.push(code).map_err(|failed| RowRefusal {
-            refusal: Refusal::from(failed),
-            before,
-        })?;
+        let code = K::code_of(*symbol).map_err(|e| behind(e, before))?;
+        codes.push(code).map_err(|e| behind(e, before))?;
     }
     Ok(codes)
 }

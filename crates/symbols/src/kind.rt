@@ -43,6 +43,7 @@ pub trait Kind {
         ensures { result ≡ unit_length };
 
     /// The unit of a symbol as two bytes, or refusal 10. For a unit of one byte the second is 0.
+    // Two bytes for each kind: an array of `UNIT` would need a computed const argument.
     fn spell(s: Self::Symbol) -> Result<[u8; 2], Refusal>
         ensures { result ≡ answer (valid s) (spelled s) NoSymbol };
 

@@ -84,12 +84,10 @@ impl Kind for Tiles {
         let [letter, face @ b'0'..=b'9'] = u else {
             return Err(Refusal::Symbol);
         };
-        match Colour::try_from(*letter) {
-            Ok(colour) => Ok(Tile {
-                colour: colour.number(),
-                face: *face - b'0',
-            }),
-            Err(_) => Err(Refusal::Symbol),
-        }
+        let colour = Colour::try_from(*letter).map_err(|_| Refusal::Symbol)?;
+        Ok(Tile {
+            colour: colour.number(),
+            face: *face - b'0',
+        })
     }
 }

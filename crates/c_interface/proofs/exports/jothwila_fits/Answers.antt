@@ -4,6 +4,5 @@ use Rattle.c_interface.proofs.exports.jothwila_fits.Goals as goal
 
 pub returns : goal.returns
 returns c =
-    let plan = c.in_default.ensures in
-    let on = (c.open-session.ensures.right c.args.pattern.now plan [] _ done).front_right in
-    inl ((plan.tree, plan.accepted), c.fits_each.ensures c.args.pattern.now on)
+    let opened = c.in-Ok.ensures in
+    inl ((opened.plan_of.tree, opened.plan_of.accepted), c.fits_each.ensures c.args.pattern.now (opened.right [] _ done).front_right)
