@@ -9,6 +9,8 @@ use banks::Bank;
 use distances::Marks;
 use tables::Table;
 
+// Table, bank and marks go side by side, and what is known of them is a premise, as in `steps`.
+
 // A pair of the front, and its distance to a pair that accepts.
 #[derive(Clone, Copy)]
 pub(crate) struct Found {
