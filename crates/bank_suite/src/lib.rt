@@ -23,6 +23,7 @@ use widths::Widths;
 mod tests;
 
 /// Carries from p to q and turns; where the bank cannot hold the new front, the front stays and the back is emptied.
+// Turns or drops the back itself, as `steps` does too: the suite proves it from the trait alone.
 pub fn pass<B: Bank>(bank: &mut B, p: usize, q: usize, raise: Raise) -> Result<(), Refusal>
     ensures { B.Bank.means.standing bank.old → Passed B.Bank.means p q (raise_by raise) bank.old result bank.new }
 {

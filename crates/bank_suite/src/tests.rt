@@ -6,6 +6,7 @@ use std::process::Abort;
 use std::test::Fail;
 
 /// A call with what it must answer.
+// By an enum: a script runs at every bank, and no closure is generic over them.
 #[derive(Clone, Copy)]
 enum Call {
     /// add(p, i) is not refused.

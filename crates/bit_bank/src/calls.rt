@@ -47,6 +47,7 @@ impl Bank for BitBank {
         let n = usize::from(row.width.min(room));
         let to = usize::from(target.base);
         let from = usize::from(row.base);
+        // By a match: the raise is a const of the loop over words.
         match raise {
             Raise::Nothing => words::join::<0>(&mut self.back, &self.front, to, from, n),
             Raise::One => words::join::<1>(&mut self.back, &self.front, to, from, n),

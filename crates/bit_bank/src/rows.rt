@@ -5,6 +5,7 @@ ghost use Rattle.bit_bank.specs.Row.{row_of};
 use widths::Widths;
 
 /// Where the row of a place lies: from the word `base` on, a bit to each count up to `width`.
+// No `Layout`: rows begin at whole words, and a `Row` is copied out as one.
 #[derive(Clone, Copy)]
 pub struct Row {
     pub(crate) base: u16,

@@ -2,6 +2,8 @@ ghost use Rattle.std.specs.Prelude.{◌≡◌, ℕ, ◌+◌, ◌*◌, ◌/◌, �
 ghost use Rattle.bits.specs.Bit.{bit_at};
 ghost use Rattle.bit_bank.specs.Join.{joined};
 
+// Not methods: a struct around one array would hold no fact, and each clause would read through it.
+
 /// Sets bit `k` of the row that begins at the word `from`.
 pub(crate) fn put(words: &mut [u64; 128], from: usize, k: usize)
     requires room { from + k / 64 < 128 }
@@ -15,7 +17,7 @@ pub(crate) fn clear(words: &mut [u64; 128], n: usize)
     requires room { n ≤ 128 }
     ensures { (a : ℕ) → bit_at words.new a ≡ (nat_le (64 * n) a && bit_at words.old a) }
 {
-    // By a loop: `fill` writes the last word apart, which made each turn slower.
+    // By a loop: `fill` was tried; it writes the last word apart, and makes each turn slower.
     for word in words[..n].iter_mut() {
         *word = 0;
     }
@@ -45,6 +47,7 @@ pub(crate) fn join<const UP: usize>(
 {
     let full = n / 64;
     let mut over = 0;
+    // By index: a `zip` has none, and what is joined so far is told by it, of all bits of `dst`.
     for (k, word) in src[from..from + full].iter().enumerate() {
         dst[to + k] |= (word << UP) | over;
         over = (word >> 1) >> (63 - UP);

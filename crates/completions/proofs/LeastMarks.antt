@@ -1,5 +1,5 @@
 -- The least mark of more and more pairs of a set.
-use Rattle.std.proofs.Common.{◌≡◌, ℕ, suc, ◌+◌, ◌-◌, ◌≤◌, true, false, ◌&&◌, ◌||◌, eqb, ltb, leb, ◌⊎◌, Some, None, Option, sym, ap, ◌∙◌, subst, inl, inr, arith}
+use Rattle.std.proofs.Common.{◌≡◌, ℕ, suc, ◌+◌, ◌≤◌, true, false, ◌&&◌, ◌||◌, eqb, ltb, leb, ◌⊎◌, Some, None, Option, sym, ap, ◌∙◌, subst, inl, inr, arith}
 use Rattle.std.proofs.lemmas.Bool.{both_ways, and_parts, leb-true}
 use Rattle.std.proofs.lemmas.Bool.Decides.{nat_tests, eqb_tells, leb_tells}
 use Rattle.banks.specs.Pairs.{Pairs, within, ◌⊆◌}
@@ -65,22 +65,18 @@ module _ (M : ℕ → ℕ → ℕ) where
 
     -- a nearer pair that stands is what is found then
     pub least_taken :
-        (old : Option Found) (m : ℕ) → m ≡ M p i → improving old m ≡ true → f p i ≡ true
-        → LeastMark M (before f p i) old → LeastMark M (before f p (i + 1)) (Some (record { place = p; count = i; distance = m - 1 }))
-    least_taken old m e w s h = (
+        (old : Option Found) (d : ℕ) → M p i ≡ suc d → improving old (suc d) ≡ true → f p i ≡ true
+        → LeastMark M (before f p i) old → LeastMark M (before f p (i + 1)) (Some (record { place = p; count = i; distance = d }))
+    least_taken old d e w s h = (
       grind (arith, nat_tests),
-      positive old w,
+      e,
       λ a b y. elim (before_more a b y) [
         | inl z ↦ further old w h a b z
-        | inr (k, l, z) ↦ let q = mark_here a b k l in let o = positive old w in inr (omega arith)
+        | inr (k, l, z) ↦ let q = mark_here a b k l in inr (omega arith)
       ],
     )
       where
-        positive : (o : Option Found) → improving o m ≡ true → M p i ≡ suc (m - 1)
-        positive None v = grind (arith, nat_tests)
-        positive (Some x) v = grind (arith, nat_tests)
-
-        further : (o : Option Found) → improving o m ≡ true → LeastMark M (before f p i) o → (a b : ℕ) → before f p i a b ≡ true → (M a b ≡ 0) ⊎ (suc (m - 1) ≤ M a b)
+        further : (o : Option Found) → improving o (suc d) ≡ true → LeastMark M (before f p i) o → (a b : ℕ) → before f p i a b ≡ true → (M a b ≡ 0) ⊎ (suc d ≤ M a b)
         further None v l a b z = inl (l a b z)
         further (Some x) v (here, mark, least) a b z = elim (least a b z) [
           | inl k ↦ inl k

@@ -1,4 +1,4 @@
-ghost use Rattle.std.specs.Prelude.{◌≡◌, ℕ, ◌+◌};
+ghost use Rattle.std.specs.Prelude.{◌≡◌, ℕ, suc, ◌+◌};
 ghost use Rattle.automata.specs.Language.{Tree};
 ghost use Rattle.tables.specs.Tables.{TableOf};
 ghost use Rattle.distances.specs.Marks.{mark_of};
@@ -9,6 +9,8 @@ use banks::Bank;
 use distances::Marks;
 use tables::Table;
 
+// Table, bank and marks go side by side, and what is known of them is a premise, as in `steps`.
+
 // A pair of the front, and its distance to a pair that accepts.
 #[derive(Clone, Copy)]
 pub(crate) struct Found {
@@ -17,23 +19,25 @@ pub(crate) struct Found {
     pub(crate) distance: u16,
 }
 
-// Whether a pair with this mark is nearer than what was found before.
-fn improves(old: Option<Found>, mark: u16) -> bool
-    ensures { result ≡ improving old mark }
+// Whether a pair with this distance is nearer than what was found before.
+fn improves(old: Option<Found>, distance: u16) -> bool
+    ensures { result ≡ improving old (suc distance) }
 {
-    mark != 0 && old.is_none_or(|found| mark <= found.distance)
+    old.is_none_or(|found| distance < found.distance)
 }
 
 // The nearer of what was found before and the pair (p, i), if it stands.
 fn nearer<B: Bank>(bank: &B, marks: &Marks, p: usize, i: u16, old: Option<Found>) -> Option<Found>
     ensures { B.means.standing bank.now → LeastMark (mark_of marks.now) (before (B.means.front bank.now) p i) old → LeastMark (mark_of marks.now) (before (B.means.front bank.now) p (i + 1)) result }
 {
-    let mark = marks.at(p, i);
-    if improves(old, mark) && bank.look(p, i, i) {
+    let Some(distance) = marks.distance(p, i) else {
+        return old;
+    };
+    if improves(old, distance) && bank.look(p, i, i) {
         return Some(Found {
             place: p,
             count: i,
-            distance: mark - 1,
+            distance,
         });
     }
     old

@@ -9,6 +9,7 @@ use widths::Layout;
 
 // The places of a pattern and their links, with the layout of the marks of its pairs. The targets of a place are the places that links
 // lead to from there; k stands for the place k + 1, since no link leads to the start.
+// By `Set64`, not the set of places of `tables`: it is walked at each pair, and walks its members in order.
 #[derive(Clone, Copy)]
 pub(crate) struct Graph<'a> {
     pub(crate) table: &'a Table,

@@ -1,4 +1,4 @@
-ghost use Rattle.std.specs.Prelude.{◌≡◌, unwrap_or};
+ghost use Rattle.std.specs.Prelude.{◌≡◌, suc, MatchOption, unwrap_or};
 ghost use Rattle.distances.specs.Marks.{mark_at, mark_of, Wiped};
 
 use widths::{Layout, Widths};
@@ -40,9 +40,17 @@ impl<'a> Marks<'a> {
     }
 
     /// The mark of the pair (p, i), and 0 where the place p has no count i or the area ends before it.
+    // 0 for none, as in the lent area.
     pub fn at(&self, p: usize, i: u16) -> u16
         ensures { result ≡ mark_of self.now p i }
     {
         self.find(p, i).unwrap_or(0)
+    }
+
+    /// The distance of the pair (p, i) to a pair that accepts; `None` where its mark is 0.
+    pub fn distance(&self, p: usize, i: u16) -> Option<u16>
+        ensures { MatchOption result (mark_of self.now p i ≡ 0) (λ d. mark_of self.now p i ≡ suc d) }
+    {
+        self.at(p, i).checked_sub(1)
     }
 }

@@ -5,6 +5,7 @@ ghost use Rattle.distances.specs.Search.{Better, Sweeps};
 use crate::graph::{Graph, MOST};
 use tables::Link;
 
+// Place and count go side by side: a struct that holds that they are a pair would have to carry the graph.
 impl Graph<'_> {
     // Where the mark of the pair (p, i) stands.
     fn number(&self, p: usize, i: u16) -> usize
@@ -12,14 +13,11 @@ impl Graph<'_> {
         ensures value { result ≡ number_in self.now p i }
         ensures bound { result < 4096 }
     {
-        let Some(base) = self.layout.base(p) else {
-            unreachable!();
-        };
-        base + usize::from(i - 1)
+        self.layout.base(p).unwrap() + usize::from(i - 1)
     }
 
     // One more than the mark of (q, j), where the way there is free and that is better than `r`; else `r`.
-    // A mark of 0 is none here too, as in the area: with an `Option` in its place the need of a long pattern takes a sixth longer.
+    // A mark of 0 is none here too, as in the area: `Option` was tried, and makes the need of a long pattern a sixth slower.
     fn through(&self, area: &[u16; 4096], free: bool, q: usize, j: u16, r: u16) -> u16
         requires place { q ≤ self.now.table.now.places }
         requires count { 1 ≤ j }

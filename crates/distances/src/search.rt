@@ -3,7 +3,6 @@ ghost use Rattle.refusals.specs.declared.Refusal.TheVariants.{Work};
 ghost use Rattle.distances.specs.Marks.{Measured, MeasuredOnce};
 
 use crate::build::graph_of;
-use crate::marks::wipe;
 use refusals::Refusal;
 use tables::Table;
 

@@ -5,6 +5,7 @@ ghost use Rattle.distances.specs.Search.{AllSettled, Ground, Sweeps};
 use crate::graph::Graph;
 use tables::Link;
 
+// By two numbers, `lo` and `end`: a `Range` is no `Copy`, and the clauses name both ends.
 impl Graph<'_> {
     // The first place of the block that ends with the place `last`: the first that a next link leads to from there, else `last`.
     fn block(&self, last: usize) -> usize

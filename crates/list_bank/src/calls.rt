@@ -44,10 +44,7 @@ impl Bank for ListBank {
     }
 
     fn look(&self, p: usize, low: u16, high: u16) -> bool {
-        match u8::try_from(p) {
-            Ok(place) => self.front.any(place, low, high),
-            Err(_) => false,
-        }
+        u8::try_from(p).is_ok_and(|place| self.front.any(place, low, high))
     }
 
     fn turn(&mut self) {

@@ -42,7 +42,7 @@ impl PairList {
     }
 
     /// Where the first pair is that does not come before (p, i).
-    // By the last pair first, since most pairs come in order.
+    // By the last pair first: most pairs come in order, and `binary_search` alone was tried, and is slower.
     pub(crate) fn first(&self, p: u8, i: u16) -> usize
         ensures { First self.now result p i }
     {
@@ -81,20 +81,18 @@ impl PairList {
     pub(crate) fn any(&self, p: u8, low: u16, high: u16) -> bool
         ensures { Decides result ((i : ℕ) × (low ≤ i) × (i ≤ high) × (pairs_of self.now p i ≡ true)) }
     {
-        match self.pairs.get(self.first(p, low)) {
-            Some(x) => x.0 == p && x.1 <= high,
-            None => false,
-        }
+        self.pairs
+            .get(self.first(p, low))
+            .is_some_and(|x| x.0 == p && x.1 <= high)
     }
 
     /// Puts (q, j) in where j is from 1 to `width`; refuses where there is no room for it.
     pub(crate) fn insert_up_to(&mut self, q: u8, j: u32, width: u16) -> Result<(), Refusal>
         ensures { Gained (pairs_of self.old) (only q j ∩ up_to width) result (pairs_of self.new) }
     {
-        if (1..=u32::from(width)).contains(&j) {
-            self.insert(q, j as u16)
-        } else {
-            Ok(())
+        match u16::try_from(j) {
+            Ok(j) if (1..=width).contains(&j) => self.insert(q, j),
+            _ => Ok(()),
         }
     }
 

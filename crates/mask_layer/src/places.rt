@@ -12,6 +12,7 @@ pub(crate) fn is_narrow(plan: &Option<Widths>, p: usize) -> bool
     width_in(plan, p) == 1
 }
 
+// By ranges and a cast: with `u8::try_from` each match has one more case, which `has` would have to prove apart.
 impl PlaceSet {
     /// No place.
     pub(crate) fn empty() -> PlaceSet
