@@ -1,5 +1,4 @@
-use Rattle.std.proofs.Common.{◌*◌, ◌∙◌, arith}
-use Rattle.alphabets.specs.Colours.{number_of}
+use Rattle.std.proofs.Common.{◌∙◌}
 use Rattle.bits.specs.Members.{member}
 use Rattle.class_bodies.proofs.UnitCodes.{made_like, colour_codes, all_faces}
 use Rattle.class_bodies.proofs.units.push_colour.Goals as goal
