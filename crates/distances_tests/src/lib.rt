@@ -16,7 +16,10 @@ mod tests {
     // The table of a letters pattern.
     fn table(heap: Global, text: &[u8]) -> Result<Table, Fail> {
         let tree = parse(heap, Alphabet::Letters, text)?;
-        table_of(&tree).ok_or(Fail::new("there is no table"))
+        let Some(table) = table_of(&tree) else {
+            return Err(Fail::new("there is no table"));
+        };
+        Ok(table)
     }
 
     // (1, 3) accepts; each count below is one link more away, and the start one more than (1, 1).
