@@ -41,7 +41,11 @@ pub fn open<K: Kind, B: Bank>(plan: Plan<K>, mut bank: B) -> Session<K, B>
 
 /// Opens a session on the plan of a text, or tells why the text is refused. The bank is started; what it held does not matter.
 /// Whatever list of calls follows, the answers are right for the row that the calls laid.
-pub fn open_on<K: Kind, B: Bank>(heap: Global, text: &[u8], bank: B) -> Result<Session<K, B>, Refusal>
+pub fn open_on<K: Kind, B: Bank>(
+    heap: Global,
+    text: &[u8],
+    bank: B,
+) -> Result<Session<K, B>, Refusal>
     ensures { MatchResult result (λ s. OpenedOn K.Kind B.Bank text.now s) (λ e. RefusedText (alphabet_of K.Kind) text.now e) }
 {
     let mut plan = Plan::new();
