@@ -1,4 +1,5 @@
 -- Completions of a row are paths of links from its front, since every place has some symbol.
+use Rattle.std.proofs.lemmas.List.{nil_from_length}
 use Rattle.std.proofs.Common.{◌≡◌, ℕ, zero, suc, ◌+◌, ◌<◌, ◌≤◌, ◌↔◌, List, [], ◌∷◌, ◌++◌, length, sym, refl, ap, ◌∙◌, subst, inl, inr, append-nil, arith}
 use mathlib.Core.Logic.Iff
 use Rattle.automata.specs.Language.{Tree, empty, unit, cat, alt, star, plus, opt, rep, In, WellFormed, NoEmptySet}
@@ -89,13 +90,9 @@ stuck_by_paths e w h ne = (
 pub need_unique : NeedUnique
 need_unique e w m n h k = least_unique (Completed e w) m n h k
 
-no_symbols : (v : List ℕ) → length v ≡ 0 → v ≡ []
-no_symbols [] e = refl
-no_symbols (s ∷ v) e = absurd (omega arith)
-
 need_in : (e : Tree) (w : List ℕ) → (Need e w 0 ↔ In e w)
 need_in e w = (
-  (λ k. let (v, is, x) = k.0 in subst (λ z. In e z) (ap (λ z. w ++ z) (no_symbols v is) ∙ append-nil w) x),
+  (λ k. let (v, is, x) = k.0 in subst (λ z. In e z) (ap (λ z. w ++ z) (nil_from_length v is) ∙ append-nil w) x),
   (λ k. (([], refl, subst (λ z. In e z) (sym (append-nil w)) k), λ m x. omega arith)),
 )
 

@@ -1,5 +1,7 @@
 -- The graph of a pattern's table is the pattern's: its pairs, links and accepting pairs; so settled marks are distances in the pattern.
-use Rattle.std.proofs.Common.{◌≡◌, ℕ, suc, ◌+◌, ◌-◌, ◌≤◌, Bool, true, false, cond, ◌&&◌, T, eqb, leb, ◌⊎◌, List, length, get_or, Decides, sym, refl, ap, ◌∙◌, subst, inl, inr, arith}
+use Rattle.automata.proofs.Powers.{decides_T}
+use Rattle.std.proofs.lemmas.Float.{T_from_true}
+use Rattle.std.proofs.Common.{◌≡◌, ℕ, suc, ◌+◌, ◌-◌, ◌≤◌, Bool, true, cond, ◌&&◌, eqb, leb, ◌⊎◌, List, length, get_or, Decides, sym, ap, ◌∙◌, inl, inr, arith}
 use Rattle.std.proofs.lemmas.Bool.Decides.{nat_tests, Decides-and, Decides-or, Decides-eqb}
 use Rattle.automata.specs.Language.{Tree, WellFormed}
 use Rattle.automata.specs.Places.{size, nullable, First, low, width}
@@ -17,13 +19,6 @@ use Rattle.distances.specs.Graphs.{Pair, Goes, Leads, accepting, mark_in, width_
 use Rattle.distances.specs.Marks.{mark_at}
 use Rattle.distances.specs.Search.{Ground, Settled}
 use Rattle.distances.proofs.Closing.{mark_steps, mark_small}
-
-true_holds : (b : Bool) → b ≡ true → T b
-true_holds b e = subst T (sym e) tt
-
-holds_true : (b : Bool) → T b → b ≡ true
-holds_true true h = refl
-holds_true false h = absurd h
 
 -- the mark of a count that the place has
 pub mark_at_lem : (w : Widths) (l : List ℕ) (p i : ℕ) → 1 ≤ i → i ≤ width_of w p → mark_at w l p i ≡ get_or l (base_of w p + (i - 1)) 0
@@ -86,14 +81,14 @@ module _ (e : Tree) (formed : WellFormed e) (g : Graph) (of : TableOf e g.table.
           let v : width e 0 p ≡ width e 0 0 = ap (width e 0) z in
           let f1 = f.1 in
           let f2 = f.2 in
-          inl (z, omega arith, true_holds (nullable e) (sym of.null ∙ n))
+          inl (z, omega arith, T_from_true (nullable e) (sym of.null ∙ n))
       go (inr (l, h)) = let w = low_is p f.0 in inr ((of.lasts p).0 l, omega arith)
 
   accept_of : (p i : ℕ) → Inside e p i → Accepts e p i → accepting g p i ≡ true
   accept_of p i f a = (accepting_parts g p i).1 (go a)
     where
       go : Accepts e p i → ((p ≡ 0) × (g.table.now.nullable ≡ true)) ⊎ ((has_place g.table.now.lasts p ≡ true) × (low_of g.table.now p ≤ i))
-      go (inl (z, o, n)) = inl (z, of.null ∙ holds_true (nullable e) n)
+      go (inl (z, o, n)) = inl (z, of.null ∙ (decides_T (nullable e)).1 n)
       go (inr (l, h)) = let w = low_is p f.0 in inr ((of.lasts p).1 l, omega arith)
 
   module _ (l : List ℕ) (long : 4096 ≤ length l) (ground : Ground g l) (settled : (p i : ℕ) → Pair g p i → Settled g l p i) where

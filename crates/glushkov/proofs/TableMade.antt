@@ -27,10 +27,6 @@ use Rattle.glushkov.proofs.CountLaws.{holds_outside, side}
 use Rattle.glushkov.proofs.LinkLaws.{bit_joined, mask_cross}
 use Rattle.glushkov.proofs.WidthSums.{sum_widths}
 
-pub only_start : (p : ℕ) → get_or (set (replicate {A = ℕ} 65 0) 0 1) p 0 ≡ cond (eqb p 0) 1 0
-only_start zero = refl
-only_start (suc p) = let z : get_or (replicate {A = ℕ} 64 0) p 0 ≡ 0 = read_replicate (λ (v : ℕ). v ≡ 0) 64 0 0 refl refl p in grind (arith, nat_tests)
-
 -- No place but the start takes anything, and the start has the low 1.
 pub fresh_codes : (s : Set64) → ((k : ℕ) → member s k ≡ false) → (p c : ℕ) → member (get_or (set (replicate 65 (record { codes = s; low = 0 })) 0 (record { codes = s; low = 1 })) p no_place).codes c ≡ false
 fresh_codes s none zero c = none c

@@ -1,5 +1,6 @@
 -- Which pairs of a front accept, by what a bank and a table tell.
-use Rattle.std.proofs.Common.{◌≡◌, ℕ, ◌+◌, ◌<◌, Bool, true, false, T, sym, refl, ap, ◌∙◌, inl, inr, arith}
+use Rattle.automata.proofs.Powers.{decides_T}
+use Rattle.std.proofs.Common.{◌≡◌, ℕ, ◌+◌, ◌<◌, true, false, sym, ap, ◌∙◌, inl, inr, arith}
 use Rattle.std.proofs.lemmas.Bool.{both_ways}
 use Rattle.automata.specs.Language.{Tree}
 use Rattle.automata.specs.Places.{nullable}
@@ -14,15 +15,6 @@ use Rattle.steps.specs.StepSet.{seen}
 use Rattle.steps.specs.Fronts.{InSet}
 use Rattle.steps.proofs.Any.{Seen, seen_decides}
 use Rattle.steps.proofs.Relation.{width_here, low_here, all_inside}
-
--- a test that is true, both ways
-true_T : (b : Bool) → b ≡ true → T b
-true_T true e = tt
-true_T false e = absurd (both_ways false refl e)
-
-T_true : (b : Bool) → T b → b ≡ true
-T_true true h = refl
-T_true false h = absurd h
 
 module _ (e : Tree) (t : Table) (table : TableOf e t) (f : Pairs) where
   -- some pair of f accepts
@@ -42,7 +34,7 @@ module _ (e : Tree) (t : Table) (table : TableOf e t) (f : Pairs) where
       → ((k : ℕ) → k < t.places + 1 → has_place t.lasts k ≡ true → seen f k (low_of t k) (width_of t.widths k) ≡ false)
       → Accepting → ⊥
   none_accepts inside start lasts (p, i, x, inl (z, one, n)) =
-      start (table.null ∙ T_true (nullable e) n)
+      start (table.null ∙ (decides_T (nullable e)).1 n)
       (i, omega arith, omega arith, ap (λ v. f v i) (sym z) ∙ x)
   none_accepts inside start lasts (p, i, x, inr (last, lo)) =
       let n = table.places in

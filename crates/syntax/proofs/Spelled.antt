@@ -1,4 +1,5 @@
 -- What the units and classes of a pattern spell: only codes of the alphabet, and a unit some code.
+use Rattle.std.proofs.lemmas.Float.{T_from_true}
 use Rattle.std.proofs.Common.{◌≡◌, ℕ, zero, suc, ◌+◌, ◌-◌, ◌*◌, ◌/◌, ◌%◌, ◌<◌, ◌≤◌, Bool, true, false, not, T, eqb, ltb, ◌⊎◌, List, Option, refl, ap, ◌∙◌, inl, inr, arith}
 use Rattle.std.proofs.lemmas.Bool.{and_parts, or_cases, ltb-true, eq-eqb, ne_eqb, cases_eq, cases_lt, cond-true, cond-false, false≢true}
 use Rattle.std.proofs.lemmas.Bool.Decides.{nat_tests}
@@ -12,10 +13,6 @@ use Rattle.syntax.specs.TextLanguage.{tree_of, repeated, CodesBelow}
 is_true : (b : Bool) → T b → b ≡ true
 is_true true h = refl
 is_true false h = absurd h
-
-holds : (b : Bool) → b ≡ true → T b
-holds true e = tt
-holds false e = let z : ◌≡◌ {A = ℕ} 0 1 = cc in absurd (omega arith)
 
 letters : (u : ℕ) → u ≡ 1 → codes_of u ≡ 26
 letters u e = cond-true (eqb u 1) 26 40 (eq-eqb u 1 e)
@@ -89,14 +86,14 @@ tile_code_told c d w l e =
 
 unit_spells : {u : ℕ} {s : List ℕ} {i j : ℕ} {m : Codes} → OneUnit u s i j m → (c : ℕ) × T (m c)
 unfolding codes_of_letter
-unit_spells (letter {c = c} a b (inl e)) = (0, holds _ (grind (arith, nat_tests)))
-unit_spells (letter {c = c} a b (inr l)) = (c - 97, holds _ (grind (arith, nat_tests, l.0, l.1)))
-unit_spells (tile {c = c} {d = d} a b l e (inl f)) = (10 * colour_of c + 0, holds _ (tile_code_told c d 0 (omega arith) (inl f)))
-unit_spells (tile {c = c} {d = d} a b l e (inr f)) = (10 * colour_of c + (d - 48), holds _ (tile_code_told c d (d - 48) (omega (arith, f.0, f.1)) (inr refl)))
+unit_spells (letter {c = c} a b (inl e)) = (0, T_from_true _ (grind (arith, nat_tests)))
+unit_spells (letter {c = c} a b (inr l)) = (c - 97, T_from_true _ (grind (arith, nat_tests, l.0, l.1)))
+unit_spells (tile {c = c} {d = d} a b l e (inl f)) = (10 * colour_of c + 0, T_from_true _ (tile_code_told c d 0 (omega arith) (inl f)))
+unit_spells (tile {c = c} {d = d} a b l e (inr f)) = (10 * colour_of c + (d - 48), T_from_true _ (tile_code_told c d (d - 48) (omega (arith, f.0, f.1)) (inr refl)))
 
 -- a set of codes below n has a code, or none below n
 here : (S : ℕ → Bool) (n : ℕ) → ((k : ℕ) → k < n → S k ≡ false) → (b : Bool) → S n ≡ b → ((c : ℕ) × T (S c)) ⊎ ((k : ℕ) → k < suc n → S k ≡ false)
-here S n f true e = inl (n, holds (S n) e)
+here S n f true e = inl (n, T_from_true (S n) e)
 here S n f false e = inr (λ k l. elim (cases_eq k n) [ inl x ↦ ap S x ∙ e | inr x ↦ f k (omega arith) ])
 
 some_code : (S : ℕ → Bool) (n : ℕ) → ((c : ℕ) × T (S c)) ⊎ ((k : ℕ) → k < n → S k ≡ false)
@@ -104,7 +101,7 @@ some_code S zero = inr (λ k l. absurd (omega arith))
 some_code S (suc n) = elim (some_code S n) [ inl x ↦ inl x | inr f ↦ here S n f (S n) refl ]
 
 none_past : (S : ℕ → Bool) (n k : ℕ) → ((k : ℕ) → T (S k) → k < n) → n ≤ k → (b : Bool) → S k ≡ b → S k ≡ false
-none_past S n k h l true e = absurd (omega (arith, h k (holds (S k) e)))
+none_past S n k h l true e = absurd (omega (arith, h k (T_from_true (S k) e)))
 none_past S n k h l false e = e
 
 -- a set that is not empty has a code
