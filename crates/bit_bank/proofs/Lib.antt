@@ -1,5 +1,5 @@
-mod Parts
-mod Stand
-mod Puts
-mod Join
-mod Any
+pub mod Parts
+pub mod Stand
+pub mod Puts
+pub mod Join
+pub mod Any

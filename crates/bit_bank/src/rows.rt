@@ -5,7 +5,7 @@ ghost use Rattle.bit_bank.specs.Row.{row_of};
 use widths::Widths;
 
 /// Where the row of a place lies: from the word `base` on, a bit to each count up to `width`.
-// No `Layout`: rows begin at whole words, and a `Row` is copied out as one.
+// No `Layout`: rows begin at whole words.
 #[derive(Clone, Copy)]
 pub struct Row {
     pub(crate) base: u16,
@@ -26,8 +26,8 @@ pub struct Rows {
 
 impl Row {
     /// Whether a count lies within the width.
-    pub(crate) fn has(self, i: u16) -> bool
-        ensures { result ≡ (nat_le 1 i && nat_le i self.width) }
+    pub(crate) fn has(&self, i: u16) -> bool
+        ensures { result ≡ (nat_le 1 i && nat_le i self.now.width) }
     {
         (1..=self.width).contains(&i)
     }
@@ -62,9 +62,10 @@ impl Rows {
     }
 
     /// The row of place `p`, if there is such a place.
-    pub(crate) fn get(&self, p: usize) -> Option<Row>
-        ensures { MatchOption result (65 ≤ p) (λ row. (p < 65) × (row ≡ row_of self.now.list p)) }
+    // Lent and not copied out: a copy is read as one and then taken apart.
+    pub(crate) fn get(&self, p: usize) -> Option<&Row>
+        ensures { MatchOption result (65 ≤ p) (λ row. (p < 65) × (row.now ≡ row_of self.now.list p)) }
     {
-        self.list.get(p).copied()
+        self.list.get(p)
     }
 }

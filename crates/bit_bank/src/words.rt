@@ -49,6 +49,7 @@ pub(crate) fn join<const UP: usize>(
     let mut over = 0;
     // By index: a `zip` has none, and what is joined so far is told by it, of all bits of `dst`.
     for (k, word) in src[from..from + full].iter().enumerate() {
+        let word = *word; // read once
         dst[to + k] |= (word << UP) | over;
         over = (word >> 1) >> (63 - UP);
     }

@@ -3,7 +3,9 @@ use Rattle.std.specs.Prelude.{ℕ, ◌≤◌, ◌⊎◌, Some, None, Option}
 use Rattle.grammar.specs.Ast.{Ast, empty, leaf, class, cat, alt, repeat}
 use Rattle.grammar.specs.Nodes.{ast_of}
 use Rattle.grammar.specs.declared.tree.Node.{Node}
-use Rattle.checks.specs.Faults.{BackwardAt, EmptyAt, BoundsAt, CountedAt, NestedAt}
+use Rattle.std.specs.declared.ops.ControlFlow.{ControlFlow}
+use Rattle.std.specs.declared.ops.ControlFlow.TheVariants.{Continue, Break}
+use Rattle.checks.specs.Faults.{Finds, BackwardAt, EmptyAt, BoundsAt, CountedAt, NestedAt}
 
 -- the faults that are searched for
 pub data Fault : Type 0 where
@@ -34,6 +36,11 @@ abbrev pub Shows : Fault → Ast → Option ℕ → Type 0
 Shows f t None = (p : ℕ) → FaultAt f t p → InParts f t p
 Shows f t (Some q) = FaultAt f t q × ((p : ℕ) → FaultAt f t p → (q ≤ p) ⊎ InParts f t p)
 
--- every answer tells what the node shows of the fault
-abbrev pub Tells : Fault → (Node → Option ℕ → Type 0) → Type 0
-Tells f answers = (n : Node) (r : Option ℕ) → answers n r → Shows f (ast_of n) r
+-- what is told of a node: what it shows, or what it and all its parts come to
+abbrev pub Says : Fault → Ast → ControlFlow (Option ℕ) (Option ℕ) → Type 0
+Says f t (Continue here) = Shows f t here
+Says f t (Break all) = Finds (FaultAt f t) all
+
+-- every answer tells what the node shows of the fault, or all of it
+abbrev pub Tells : Fault → (Node → ControlFlow (Option ℕ) (Option ℕ) → Type 0) → Type 0
+Tells f answers = (n : Node) (r : ControlFlow (Option ℕ) (Option ℕ)) → answers n r → Says f (ast_of n) r

@@ -1,11 +1,13 @@
-//! Searches of a tree, each for the leftmost place of one fault: one walk, and a closure that tells what a node shows.
+//! Searches of a tree, each for the leftmost place of one fault: one walk, and a closure that tells what a node shows, or, by a
+//! `Break`, what a whole part comes to.
 ghost use Rattle.std.specs.Prelude.{◌≡◌, ◌<◌, ◌⊎◌, Decides};
 ghost use Rattle.std.specs.Fn.{FnReturnsAt};
 ghost use Rattle.grammar.specs.Nodes.{ast_of};
 ghost use Rattle.checks.specs.Faults.{Finds, least, BackwardAt, EmptyAt, BoundsAt, CountedAt, NestedAt};
-ghost use Rattle.checks.specs.Searches.{Fault, backward, no_code, bounds, counted, nested, FaultAt, Shows, Tells};
+ghost use Rattle.checks.specs.Searches.{Fault, backward, no_code, bounds, counted, nested, FaultAt, Says, Tells};
 
 use grammar::{Node, Times};
+use std::ops::ControlFlow;
 
 /// The smaller of two places.
 fn earlier(a: Option<usize>, b: Option<usize>) -> Option<usize>
@@ -14,18 +16,23 @@ fn earlier(a: Option<usize>, b: Option<usize>) -> Option<usize>
     a.into_iter().chain(b).min()
 }
 
+/// What is told of a node: what it shows, its parts to be looked at too, or what it and all its parts come to.
+type Told = ControlFlow<Option<usize>, Option<usize>>;
+
 /// The leftmost place of a fault, of which `fault` tells what one node shows.
-fn leftmost<F: Fn(&Node) -> Option<usize>>(n: &Node, fault: &F) -> Option<usize>
+fn leftmost<F: Fn(&Node) -> Told>(n: &Node, fault: &F) -> Option<usize>
     requires { F.IsAlwaysCallable fault.now }
     ensures { (f : Fault) → Tells f (FnReturnsAt F.Fn fault.now) → Finds (FaultAt f (ast_of n.now)) result }
 {
-    let here = fault(n);
-    match n {
-        Node::Cat(a, b) | Node::Alt(a, b) => {
-            earlier(here, earlier(leftmost(a, fault), leftmost(b, fault)))
-        }
-        Node::Repeat(a, _) => earlier(here, leftmost(a, fault)),
-        _ => here,
+    match fault(n) {
+        ControlFlow::Break(all) => all,
+        ControlFlow::Continue(here) => match n {
+            Node::Cat(a, b) | Node::Alt(a, b) => {
+                earlier(here, earlier(leftmost(a, fault), leftmost(b, fault)))
+            }
+            Node::Repeat(a, _) => earlier(here, leftmost(a, fault)),
+            _ => here,
+        },
     }
 }
 
@@ -36,11 +43,11 @@ pub(crate) fn backward_range(n: &Node) -> Option<usize>
     leftmost(
         n,
         &|node: &Node|
-            ensures { Shows backward (ast_of node.now) result }
+            ensures { Says backward (ast_of node.now) result }
         {
             match node {
-                Node::Class(_, _, back) => *back,
-                _ => None,
+                Node::Class(_, _, back) => ControlFlow::Continue(*back),
+                _ => ControlFlow::Continue(None),
             }
         },
     )
@@ -53,11 +60,11 @@ pub(crate) fn empty_class(n: &Node) -> Option<usize>
     leftmost(
         n,
         &|node: &Node|
-            ensures { Shows no_code (ast_of node.now) result }
+            ensures { Says no_code (ast_of node.now) result }
         {
             match node {
-                Node::Class(at, codes, _) if codes.is_empty() => Some(*at),
-                _ => None,
+                Node::Class(at, codes, _) if codes.is_empty() => ControlFlow::Continue(Some(*at)),
+                _ => ControlFlow::Continue(None),
             }
         },
     )
@@ -78,11 +85,13 @@ pub(crate) fn wrong_bound(n: &Node) -> Option<usize>
     leftmost(
         n,
         &|node: &Node|
-            ensures { Shows bounds (ast_of node.now) result }
+            ensures { Says bounds (ast_of node.now) result }
         {
             match node {
-                Node::Repeat(_, Times::Counted(at, bounds)) if wrong(*bounds) => Some(*at),
-                _ => None,
+                Node::Repeat(_, Times::Counted(at, bounds)) if wrong(*bounds) => {
+                    ControlFlow::Continue(Some(*at))
+                }
+                _ => ControlFlow::Continue(None),
             }
         },
     )
@@ -95,11 +104,11 @@ fn counted(n: &Node) -> Option<usize>
     leftmost(
         n,
         &|node: &Node|
-            ensures { Shows counted (ast_of node.now) result }
+            ensures { Says counted (ast_of node.now) result }
         {
             match node {
-                Node::Repeat(_, Times::Counted(at, _)) => Some(*at),
-                _ => None,
+                Node::Repeat(_, Times::Counted(at, _)) => ControlFlow::Continue(Some(*at)),
+                _ => ControlFlow::Continue(None),
             }
         },
     )
@@ -112,11 +121,11 @@ pub(crate) fn nested(n: &Node) -> Option<usize>
     leftmost(
         n,
         &|node: &Node|
-            ensures { Shows nested (ast_of node.now) result }
+            ensures { Says nested (ast_of node.now) result }
         {
             match node {
-                Node::Repeat(body, Times::Counted(_, _)) => counted(body),
-                _ => None,
+                Node::Repeat(body, Times::Counted(_, _)) => ControlFlow::Break(counted(body)),
+                _ => ControlFlow::Continue(None),
             }
         },
     )

@@ -1,5 +1,5 @@
-mod Order
-mod Lists
-mod Inserts
-mod Moves
-mod Puts
+pub mod Order
+pub mod Lists
+pub mod Inserts
+pub mod Moves
+pub mod Puts

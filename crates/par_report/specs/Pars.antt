@@ -2,7 +2,7 @@
 use Rattle.std.specs.Prelude.{◌≡◌, ℕ, ◌≤◌, ◌⊎◌, List, length, Some, None, Ok, Err, Decides, Option, Result}
 use Rattle.refusals.specs.declared.Refusal.{Refusal}
 use Rattle.refusals.specs.declared.Refusal.TheVariants.{Symbol}
-use Rattle.refusals.specs.Numbering.{place_of}
+use Rattle.refusals.specs.Numbering.{number_of, place_of}
 use Rattle.grammar.specs.Ast.{Ast}
 use Rattle.alphabets.specs.declared.Alphabet.TheVariants.{Letters}
 use Rattle.syntax.specs.Refuses.{Refuses, Accepted}
@@ -31,10 +31,10 @@ TextRefused text r place = Refuses Letters text r × (place_of r ≡ Some place)
 abbrev pub RowRefused : List ℕ → List ℕ → Refusal → ℕ → Type 0
 RowRefused text row r place = IsAccepted text × (r ≡ Symbol) × NoSymbolAfter letters row place
 
--- What is answered of a pattern text and a row. Memory may be wanting for a text of at most 512 bytes.
+-- What is answered of a pattern text and a row; a refusal is told with its number. Memory may be wanting for a text of at most 512 bytes.
 abbrev pub Judged : List ℕ → List ℕ → Result Par ParError → Type 0
 Judged text row (Ok par) = IsAccepted text × AllSymbols letters row × Decides par.fits (Belongs letters text row) × NeedSaid text row par.need
-Judged text row (Err (Refused r place)) = TextRefused text r place ⊎ RowRefused text row r place
+Judged text row (Err (Refused r number place)) = (number_of r ≡ number) × (TextRefused text r place ⊎ RowRefused text row r place)
 Judged text row (Err Memory) = length text ≤ 512
 
 -- What is answered of an input of two lines, the text and the row.

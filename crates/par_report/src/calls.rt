@@ -33,7 +33,11 @@ fn refuse(e: Refusal) -> ParError
     ensures { (text row : List ℕ) → RefusedText InLetters text e → Judged text row (Err result) }
 {
     match e.place() {
-        Some(place) => ParError::Refused { refusal: e, place },
+        Some(place) => ParError::Refused {
+            refusal: e,
+            number: e.number(),
+            place,
+        },
         None => ParError::Memory,
     }
 }

@@ -1,4 +1,5 @@
 ghost use Rattle.std.specs.Prelude.{◌≡◌};
+ghost use Rattle.refusals.specs.Numbering.{number_of};
 ghost use Rattle.par_report.specs.declared.data.ParError.TheVariants.{Refused};
 
 use refusals::Refusal;
@@ -15,9 +16,14 @@ pub struct Par {
 /// Why there is no par.
 #[derive(Clone, Copy, PartialEq, Eq, Debug, Error)]
 pub enum ParError {
-    /// A refusal and its place: the byte of the pattern, or the number of letters before the one that is none.
-    #[error("refused {} at {place}", .refusal.number())]
-    Refused { refusal: Refusal, place: usize },
+    /// A refusal, its number and its place: the byte of the pattern, or the number of letters before the one that is none.
+    // With its number: what prints it promises nothing, and only hands on what is proved here.
+    #[error("refused {number} at {place}")]
+    Refused {
+        refusal: Refusal,
+        number: u8,
+        place: usize,
+    },
     /// Want of memory.
     #[error("memory allocation failed")]
     Memory,
@@ -25,11 +31,12 @@ pub enum ParError {
 
 // By hand: the `From` that `#[from]` writes promises nothing.
 impl From<RowRefusal> for ParError {
-    ghost from_gives = { λ r e. e ≡ Refused r.refusal r.before };
+    ghost from_gives = { λ r e. e ≡ Refused r.refusal (number_of r.refusal) r.before };
 
     fn from(refused: RowRefusal) -> ParError {
         ParError::Refused {
             refusal: refused.refusal,
+            number: refused.refusal.number(),
             place: refused.before,
         }
     }

@@ -6,4 +6,4 @@ pub mod Standing
 pub mod Laying
 pub mod RowsLaid
 pub mod Runs
-mod Answered
+pub mod Answered

@@ -69,9 +69,10 @@ fn follow<B: Bank>(table: &Table, bank: &mut B, p: usize, q: usize) -> Result<()
 fn leave<B: Bank>(table: &Table, bank: &mut B, code: u8, p: usize) -> Result<(), Refusal>
     ensures { Ready B.means bank.old → Gathered B.means (leaving table.now code (B.means.front bank.old) p) bank.old result bank.new }
 {
-    for q in 1..table.places() + 1 {
-        if table.codes_at(q).has(code) {
-            follow(table, bank, p, q)?;
+    // Over the places themselves: by number each read of one would cost more.
+    for (before, place) in table.each[1..table.places() + 1].iter().enumerate() {
+        if place.codes.has(code) {
+            follow(table, bank, p, before + 1)?;
         }
     }
     Ok(())

@@ -32,3 +32,7 @@ has_place_past s p h = let m : member s.numbers (p - 1) ≡ false = member_past 
 -- No links from a number that is no place.
 pub mask_past : (rows : List LinkRow) (p q : ℕ) → length rows ≤ p → mask_at rows p q ≡ 0
 mask_past rows p q h = ap (λ (r : LinkRow). mask_in r q) (get_or_past rows p no_row h) ∙ read_replicate (λ (v : Links). v.mask ≡ 0) 65 no_links no_links refl refl q
+
+-- No links to a number that is no place.
+pub mask_past_to : (rows : List LinkRow) (p q : ℕ) → 65 ≤ q → mask_at rows p q ≡ 0
+mask_past_to rows p q h = let e = (get_or rows p no_row).long in ap (λ (l : Links). l.mask) (get_or_past (get_or rows p no_row).to q no_links (omega arith))

@@ -5,7 +5,7 @@ use bits::Set64;
 /// A set of places, each kept by its number less one. A number that is no place is in no set.
 #[derive(Clone, Copy, PartialEq, Eq, Debug)]
 pub struct PlaceSet {
-    pub(crate) numbers: Set64,
+    pub numbers: Set64,
 }
 
 impl PlaceSet {

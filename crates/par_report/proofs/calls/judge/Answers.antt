@@ -1,4 +1,4 @@
-use Rattle.std.proofs.Common.{rules, inr}
+use Rattle.std.proofs.Common.{rules, refl, inr}
 use Rattle.std.proofs.lemmas.Result.{err_from_is_err_and}
 use Rattle.symbols.specs.contracts.letters.LettersKind.TheImpl.{ghosts as letters}
 use Rattle.plans.specs.Plans.{PlanOf}
@@ -13,7 +13,7 @@ returns-in_err-lay_row c =
     let p = err_from_is_err_and c.from_residual-in_err-lay_row.result c.from_residual-in_err-lay_row.ensures.1 in
     let plan : PlanOf letters text c.read.new.self = search rules in
     let (less, run) = c.in_err-lay_row.ensures in
-    rw (p.1, p.2) (inr (refused_laid text row e.before e.refusal _ _ (c.open-session.ensures.right text plan) less run))
+    rw (p.1, p.2) (refl, inr (refused_laid text row e.before e.refusal _ _ (c.open-session.ensures.right text plan) less run))
 
 pub returns : goal.returns
 returns c =

@@ -1,36 +1,53 @@
-use Rattle.std.proofs.Common.{◌≡◌, ◌+◌, true, false, Ok, sym, ◌∙◌, subst, arith}
+use Rattle.std.proofs.Common.{◌≡◌, ℕ, ◌+◌, ◌<◌, ◌≤◌, true, false, Ok, length, get_or, sym, ap, ◌∙◌, subst, arith}
+use Rattle.std.specs.List.{between}
+use Rattle.std.proofs.lemmas.List.{get_or_default}
+use Rattle.std.proofs.lemmas.List.Edits.{get_or-between, length-between}
 use Rattle.std.proofs.lemmas.Result.{err_from_is_err_and}
+use Rattle.bits.specs.Members.{member}
+use Rattle.tables.specs.declared.table.Place.{Place}
+use Rattle.tables.specs.declared.table.Table.{Table}
+use Rattle.tables.specs.Masks.{no_place}
 use Rattle.tables.specs.Tables.{takes}
 use Rattle.steps.proofs.Leaves.{To, to_followed, to_passed, to_refused}
 use Rattle.steps.proofs.moves.leave.Goals as goal
 use Rattle.steps.proofs.moves.leave.Goals.{then-has+in_ok-follow, else-has}
 
+-- the k-th of the places behind the start
+behind_start : (t : Table) (n k : ℕ) (x : Place) → n ≤ 64 → k < length (between 1 (n + 1) t.each) → x ≡ get_or (between 1 (n + 1) t.each) k x
+    → (k + 1 ≤ n) × (get_or t.each (k + 1) no_place ≡ x)
+behind_start t n k x few below is =
+    let l = length-between t.each 1 (n + 1) (omega (arith, t.full)) in
+    let inside : k + 1 ≤ n = omega arith in
+    let e : 1 + k ≡ k + 1 = omega arith in
+    let a = get_or-between t.each 1 (n + 1) k x (omega arith) in
+    let b = get_or_default t.each (1 + k) x no_place (omega (arith, t.full)) in
+    (inside, ap (λ i. get_or t.each i no_place) (sym e) ∙ sym (is ∙ a ∙ b))
+
 pub returns-in_err-follow : goal.returns-in_err-follow
 returns-in_err-follow g c = λ ready.
     let m = g.B.Bank.means in
     let t = c.args.table.now in
-    let h : takes t c.loop-q.q c.args.code ≡ true =
-    sym (c.codes_at.ensures c.args.code) ∙ sym c.has.ensures ∙ c.if-has.true in
-    let k = to_followed m t c.args.code c.args.bank.now c.args.p c.loop-q.q _ _ _
-    (omega arith) (omega arith) h (c.loop-q.invariant ready) c.in_err-follow.ensures in
+    let (inside, place) = behind_start t c.places.result c.loop-before.before c.place-item.result (omega (arith, t.few, c.places.ensures)) c.loop-before-test.true c.place-item.is in
+    let h : takes t (c.loop-before.before + 1) c.args.code ≡ true =
+    ap (λ (v : Place). member v.codes c.args.code) place ∙ sym c.has.ensures ∙ c.if-has.true in
+    let k = to_followed m t c.args.code c.args.bank.now c.args.p (c.loop-before.before + 1) _ _ _
+    (omega arith) (omega (arith, c.places.ensures)) h (c.loop-before.invariant ready) c.in_err-follow.ensures in
     let x = err_from_is_err_and c.from_residual.result c.from_residual.ensures.1 in
     rw (x.1, x.2) (to_refused m t c.args.code c.args.bank.now g.met.B.Bank.facts _ _ _ _ ready.stands k)
 
-pub loop-q-preserved : goal.loop-q-preserved
-loop-q-preserved g c = λ ready.
+pub loop-before-preserved : goal.loop-before-preserved
+loop-before-preserved g c = λ ready.
     let m = g.B.Bank.means in
     let t = c.args.table.now in
     let b = c.args.bank.now in
-    let q = c.loop-q.q in
+    let q = c.loop-before.before + 1 in
+    let (inside, place) = behind_start t c.places.result c.loop-before.before c.place-item.result (omega (arith, t.few, c.places.ensures)) c.loop-before-test.true c.place-item.is in
+    let codes : takes t q c.args.code ≡ c.has.result = ap (λ (v : Place). member v.codes c.args.code) place ∙ sym c.has.ensures in
     elim c.if-has.branch [
       | then-has+in_ok-follow w ↦
-          let h : takes t q c.args.code ≡ true =
-          sym (c.codes_at.ensures c.args.code) ∙ sym c.has.ensures ∙ w.if-has.true in
           subst (λ v. To m t c.args.code b c.args.p (q + 1) (Ok tt) v) (sym w.bank-is)
-          (to_followed m t c.args.code b c.args.p q _ _ _ (omega arith) (omega arith) h (c.loop-q.invariant ready) w.in_ok-follow.ensures)
+          (to_followed m t c.args.code b c.args.p q _ _ _ (omega arith) (omega (arith, c.places.ensures)) (codes ∙ w.if-has.true) (c.loop-before.invariant ready) w.in_ok-follow.ensures)
       | else-has w ↦
-          let h : takes t q c.args.code ≡ false =
-          sym (c.codes_at.ensures c.args.code) ∙ sym c.has.ensures ∙ w.if-has.false in
           subst (λ v. To m t c.args.code b c.args.p (q + 1) (Ok tt) v) (sym w.bank-is)
-          (to_passed m t c.args.code b c.args.p q _ h (c.loop-q.invariant ready))
+          (to_passed m t c.args.code b c.args.p q _ (codes ∙ w.if-has.false) (c.loop-before.invariant ready))
     ]

@@ -1,4 +1,4 @@
-use Rattle.std.proofs.Common.{ℕ, ◌||◌, eqb, ap, ◌∙◌, arith}
+use Rattle.std.proofs.Common.{rules, ℕ, ◌||◌, eqb, ap, ◌∙◌, arith}
 use Rattle.std.proofs.lemmas.Bool.Decides.{nat_tests}
 use Rattle.bits.specs.Bit.{bit_at}
 use Rattle.banks.specs.Pairs.{only}
@@ -34,5 +34,5 @@ returns-in_default c = λ _.
 pub returns-in_default-2 : goal.returns-in_default-2
 returns-in_default-2 c = λ _.
     let b = c.args.self.now in
-    let z = width_past b.rows c.args.p c.in_default.ensures in
+    let z = width_past b.rows c.args.p (let r = c.in_default.is in let e = c.get.ensures in search rules) in
     put_nothing b (only c.args.p c.args.i) (left_out (row_widths b.rows) c.args.p c.args.i (grind (arith, nat_tests)))
