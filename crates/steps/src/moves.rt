@@ -1,4 +1,5 @@
-ghost use Rattle.std.specs.Prelude.{◌≡◌, ◌+◌, ◌&&◌};
+ghost use Rattle.std.specs.Prelude.{◌≡◌, ℕ, ◌+◌, ◌&&◌, ◌==◌, nat_lt};
+ghost use Rattle.bits.specs.Members.{member};
 ghost use Rattle.widths.specs.Width.{width_of};
 ghost use Rattle.tables.specs.Tables.{low_of};
 ghost use Rattle.banks.specs.Pairs.{only, moved};
@@ -8,6 +9,7 @@ ghost use Rattle.steps.specs.Gathered.{Ready, Gathered};
 ghost use Rattle.steps.specs.Fronts.{Fresh};
 
 use banks::{Bank, Raise};
+use bits::Set64;
 use refusals::Refusal;
 use tables::{Link, Table};
 
@@ -65,13 +67,21 @@ fn follow<B: Bank>(table: &Table, bank: &mut B, p: usize, q: usize) -> Result<()
     cross_if(table, bank, links.has(Link::Cross), p, q)
 }
 
+// Whether these codes have the one that is alone in `alone`. Where a set is gone over, `has` would shift for each place anew.
+fn have_code(codes: Set64, alone: Set64) -> bool
+    ensures { (c : ℕ) → ((k : ℕ) → member alone k ≡ (k == c && nat_lt k 64)) → result ≡ member codes c }
+{
+    !codes.intersection(alone).is_empty()
+}
+
 // Follows the links from p to every place that takes the code.
 fn leave<B: Bank>(table: &Table, bank: &mut B, code: u8, p: usize) -> Result<(), Refusal>
     ensures { Ready B.means bank.old → Gathered B.means (leaving table.now code (B.means.front bank.old) p) bank.old result bank.new }
 {
+    let alone = Set64::only(code);
     // Over the places themselves: by number each read of one would cost more.
     for (before, place) in table.each[1..table.places() + 1].iter().enumerate() {
-        if place.codes.has(code) {
+        if have_code(place.codes, alone) {
             follow(table, bank, p, before + 1)?;
         }
     }

@@ -10,7 +10,7 @@ use Rattle.tables.specs.Masks.{no_place}
 use Rattle.tables.specs.Tables.{takes}
 use Rattle.steps.proofs.Leaves.{To, to_followed, to_passed, to_refused}
 use Rattle.steps.proofs.moves.leave.Goals as goal
-use Rattle.steps.proofs.moves.leave.Goals.{then-has+in_ok-follow, else-has}
+use Rattle.steps.proofs.moves.leave.Goals.{then-have_code+in_ok-follow, else-have_code}
 
 -- the k-th of the places behind the start
 behind_start : (t : Table) (n k : ℕ) (x : Place) → n ≤ 64 → k < length (between 1 (n + 1) t.each) → x ≡ get_or (between 1 (n + 1) t.each) k x
@@ -29,7 +29,7 @@ returns-in_err-follow g c = λ ready.
     let t = c.args.table.now in
     let (inside, place) = behind_start t c.places.result c.loop-before.before c.place-item.result (omega (arith, t.few, c.places.ensures)) c.loop-before-test.true c.place-item.is in
     let h : takes t (c.loop-before.before + 1) c.args.code ≡ true =
-    ap (λ (v : Place). member v.codes c.args.code) place ∙ sym c.has.ensures ∙ c.if-has.true in
+    ap (λ (v : Place). member v.codes c.args.code) place ∙ sym (c.have_code.ensures c.args.code c.only-alone.ensures) ∙ c.if-have_code.true in
     let k = to_followed m t c.args.code c.args.bank.now c.args.p (c.loop-before.before + 1) _ _ _
     (omega arith) (omega (arith, c.places.ensures)) h (c.loop-before.invariant ready) c.in_err-follow.ensures in
     let x = err_from_is_err_and c.from_residual.result c.from_residual.ensures.1 in
@@ -42,12 +42,12 @@ loop-before-preserved g c = λ ready.
     let b = c.args.bank.now in
     let q = c.loop-before.before + 1 in
     let (inside, place) = behind_start t c.places.result c.loop-before.before c.place-item.result (omega (arith, t.few, c.places.ensures)) c.loop-before-test.true c.place-item.is in
-    let codes : takes t q c.args.code ≡ c.has.result = ap (λ (v : Place). member v.codes c.args.code) place ∙ sym c.has.ensures in
-    elim c.if-has.branch [
-      | then-has+in_ok-follow w ↦
+    let codes : takes t q c.args.code ≡ c.have_code.result = ap (λ (v : Place). member v.codes c.args.code) place ∙ sym (c.have_code.ensures c.args.code c.only-alone.ensures) in
+    elim c.if-have_code.branch [
+      | then-have_code+in_ok-follow w ↦
           subst (λ v. To m t c.args.code b c.args.p (q + 1) (Ok tt) v) (sym w.bank-is)
-          (to_followed m t c.args.code b c.args.p q _ _ _ (omega arith) (omega (arith, c.places.ensures)) (codes ∙ w.if-has.true) (c.loop-before.invariant ready) w.in_ok-follow.ensures)
-      | else-has w ↦
+          (to_followed m t c.args.code b c.args.p q _ _ _ (omega arith) (omega (arith, c.places.ensures)) (codes ∙ w.if-have_code.true) (c.loop-before.invariant ready) w.in_ok-follow.ensures)
+      | else-have_code w ↦
           subst (λ v. To m t c.args.code b c.args.p (q + 1) (Ok tt) v) (sym w.bank-is)
-          (to_passed m t c.args.code b c.args.p q _ (codes ∙ w.if-has.false) (c.loop-before.invariant ready))
+          (to_passed m t c.args.code b c.args.p q _ (codes ∙ w.if-have_code.false) (c.loop-before.invariant ready))
     ]
