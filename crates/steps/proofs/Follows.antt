@@ -1,6 +1,7 @@
 -- The links from one place to another, followed one after another.
-use Rattle.std.proofs.Common.{◌≡◌, ℕ, Bool, ◌&&◌, Ok, Err, Result, subst, arith}
+use Rattle.std.proofs.Common.{◌≡◌, ℕ, Bool, false, ◌&&◌, Ok, Err, Result, ap, ◌∙◌, subst, arith}
 use Rattle.refusals.specs.declared.Refusal.{Refusal}
+use Rattle.bits.proofs.Laws.{bit_zero}
 use Rattle.banks.specs.Pairs.{Pairs, only, moved}
 use Rattle.banks.specs.Meaning.{Meaning, Facts}
 use Rattle.widths.specs.Width.{width_of}
@@ -8,8 +9,8 @@ use Rattle.tables.specs.declared.table.Table.{Table}
 use Rattle.tables.specs.Masks.{within, next, cross}
 use Rattle.tables.specs.Tables.{links_of, low_of}
 use Rattle.steps.specs.StepSet.{seen, only_if, along}
-use Rattle.steps.specs.Gathered.{Gathered}
-use Rattle.steps.proofs.Gathers.{gathered_more, gathered_refused}
+use Rattle.steps.specs.Gathered.{Ready, Gathered}
+use Rattle.steps.proofs.Gathers.{gathered_none, gathered_more, gathered_refused}
 
 -- what a link from p to q gives of the set f, if x says that there is one: a within link, a next link, a cross link
 abbrev pub by_within : ℕ → ℕ → Bool → Pairs → Pairs
@@ -55,3 +56,11 @@ module _ {B : Type 0} (m : Meaning B) (t : Table) (f : Pairs) (p q : ℕ) where
       (b b₁ b₂ : B) (r : Result (Unit {0}) Refusal) (b₃ : B)
       → ByWithin b (Ok tt) b₁ → ByNext b₁ (Ok tt) b₂ → ByCross b₂ r b₃ → Gathered m (along t f p q) b r b₃
   links_followed b b₁ b₂ r b₃ h k l = gathered_more m _ _ b b₁ r b₃ h (gathered_more m _ _ b₁ b₂ r b₃ k l)
+
+  -- without a link there is nothing to follow
+  pub no_link_followed : links_of t p q ≡ 0 → (b : B) → Ready m b → Gathered m (along t f p q) b (Ok tt) b
+  no_link_followed none b =
+      let w : within (links_of t p q) ≡ false = ap within none ∙ bit_zero 0 in
+      let n : next (links_of t p q) ≡ false = ap next none ∙ bit_zero 1 in
+      let x : cross (links_of t p q) ≡ false = ap cross none ∙ bit_zero 2 in
+      gathered_none m (along t f p q) b (λ r j. grind arith)

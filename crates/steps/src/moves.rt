@@ -71,6 +71,10 @@ fn follow<B: Bank>(table: &Table, bank: &mut B, p: usize, q: usize) -> Result<()
     ensures { Ready B.means bank.old → Gathered B.means (along table.now (B.means.front bank.old) p q) bank.old result bank.new }
 {
     let links = links_between(table, p, q);
+    // Most pairs of places have no link: one question in place of three.
+    if links.is_empty() {
+        return Ok(());
+    }
     carry_if(bank, links.has(Link::Within), p, q, Raise::Nothing)?;
     carry_if(bank, links.has(Link::Next), p, q, Raise::One)?;
     cross_if(table, bank, links.has(Link::Cross), p, q)

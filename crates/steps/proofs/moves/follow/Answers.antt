@@ -1,10 +1,18 @@
-use Rattle.std.proofs.Common.{◌≡◌, refl, ap, ◌∙◌}
+use Rattle.std.proofs.Common.{◌≡◌, sym, refl, ap, ◌∙◌, arith}
+use Rattle.std.proofs.lemmas.Bool.Decides.{nat_tests}
 use Rattle.std.proofs.lemmas.Result.{err_from_is_err_and}
 use Rattle.tables.specs.Masks.{within, next, cross}
 use Rattle.tables.specs.Tables.{links_of}
 use Rattle.steps.proofs.Gathers.{gathered_ready}
-use Rattle.steps.proofs.Follows.{by_within, by_next, by_cross, gathered_at, within_refused, next_refused, links_followed}
+use Rattle.steps.proofs.Follows.{by_within, by_next, by_cross, gathered_at, within_refused, next_refused, links_followed, no_link_followed}
 use Rattle.steps.proofs.moves.follow.Goals as goal
+
+pub returns-then-is_empty : goal.returns-then-is_empty
+returns-then-is_empty g c =
+    let t = c.args.table.now in
+    let f = g.B.Bank.means.front c.args.bank.now in
+    let none : c.links_between-links.result.mask ≡ 0 = (let h = c.is_empty.ensures in let y = c.if-is_empty.true in grind (arith, nat_tests)) in
+    no_link_followed g.B.Bank.means t f c.args.p c.args.q (sym c.links_between-links.ensures ∙ none) c.args.bank.now
 
 pub returns-in_err-carry_if : goal.returns-in_err-carry_if
 returns-in_err-carry_if g c = λ ready.
