@@ -1,7 +1,7 @@
-ghost use Rattle.std.specs.Prelude.{◌≡◌, ℕ, ◌+◌, ◌<◌, ◌&&◌, ◌==◌, nat_lt};
+ghost use Rattle.std.specs.Prelude.{◌≡◌, ℕ, ◌+◌, ◌&&◌, ◌==◌, nat_lt};
 ghost use Rattle.bits.specs.Members.{member};
 ghost use Rattle.widths.specs.Width.{width_of};
-ghost use Rattle.tables.specs.Tables.{low_of, links_of};
+ghost use Rattle.tables.specs.Tables.{low_of};
 ghost use Rattle.banks.specs.Pairs.{only, moved};
 ghost use Rattle.banks.specs.Raises.{raise_by};
 ghost use Rattle.steps.specs.StepSet.{seen, only_if, along, leaving, leaving_below};
@@ -11,7 +11,7 @@ ghost use Rattle.steps.specs.Fronts.{Fresh};
 use banks::{Bank, Raise};
 use bits::Set64;
 use refusals::Refusal;
-use tables::{Link, Links, Table};
+use tables::{Link, Table};
 
 // Table and bank go side by side: in a struct that lends both, each clause would have to read the bank through it.
 
@@ -57,20 +57,11 @@ fn cross_if<B: Bank>(
     }
 }
 
-// The links between two places, the start among them. `Table::links` would ask anew whether they are.
-fn links_between(table: &Table, p: usize, q: usize) -> Links
-    requires places { (p < 65) × (q < 65) }
-    ensures { result.mask ≡ links_of table.now p q }
-{
-    table.links[p].to[q]
-}
-
 // Follows the links from p to q.
 fn follow<B: Bank>(table: &Table, bank: &mut B, p: usize, q: usize) -> Result<(), Refusal>
-    requires places { (p < 65) × (q < 65) }
     ensures { Ready B.means bank.old → Gathered B.means (along table.now (B.means.front bank.old) p q) bank.old result bank.new }
 {
-    let links = links_between(table, p, q);
+    let links = table.links(p, q);
     // Most pairs of places have no link: one question in place of three.
     if links.is_empty() {
         return Ok(());
@@ -89,12 +80,13 @@ fn have_code(codes: Set64, alone: Set64) -> bool
 
 // Follows the links from p to every place that takes the code.
 fn leave<B: Bank>(table: &Table, bank: &mut B, code: u8, p: usize) -> Result<(), Refusal>
-    requires place { p < 65 }
     ensures { Ready B.means bank.old → Gathered B.means (leaving table.now code (B.means.front bank.old) p) bank.old result bank.new }
 {
     let alone = Set64::only(code);
+    // Never more than 64, which is said here for speed: the compiler then asks of no place whether it is one.
+    let places = table.places().min(64);
     // Over the places themselves: by number each read of one would cost more.
-    for (before, place) in table.each[1..table.places() + 1].iter().enumerate() {
+    for (before, place) in table.each[1..places + 1].iter().enumerate() {
         if have_code(place.codes, alone) {
             follow(table, bank, p, before + 1)?;
         }

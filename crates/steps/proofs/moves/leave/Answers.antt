@@ -27,11 +27,11 @@ pub returns-in_err-follow : goal.returns-in_err-follow
 returns-in_err-follow g c = λ ready.
     let m = g.B.Bank.means in
     let t = c.args.table.now in
-    let (inside, place) = behind_start t c.places.result c.loop-before.before c.place-item.result (omega (arith, t.few, c.places.ensures)) c.loop-before-test.true c.place-item.is in
+    let (inside, place) = behind_start t c.min-places.result c.loop-before.before c.place-item.result (omega (arith, c.min-places.ensures)) c.loop-before-test.true c.place-item.is in
     let h : takes t (c.loop-before.before + 1) c.args.code ≡ true =
     ap (λ (v : Place). member v.codes c.args.code) place ∙ sym (c.have_code.ensures c.args.code c.only-alone.ensures) ∙ c.if-have_code.true in
     let k = to_followed m t c.args.code c.args.bank.now c.args.p (c.loop-before.before + 1) _ _ _
-    (omega arith) (omega (arith, c.places.ensures)) h (c.loop-before.invariant ready) c.in_err-follow.ensures in
+    (omega arith) (omega (arith, t.few, c.places.ensures, c.min-places.ensures)) h (c.loop-before.invariant ready) c.in_err-follow.ensures in
     let x = err_from_is_err_and c.from_residual.result c.from_residual.ensures.1 in
     rw (x.1, x.2) (to_refused m t c.args.code c.args.bank.now g.met.B.Bank.facts _ _ _ _ ready.stands k)
 
@@ -41,12 +41,12 @@ loop-before-preserved g c = λ ready.
     let t = c.args.table.now in
     let b = c.args.bank.now in
     let q = c.loop-before.before + 1 in
-    let (inside, place) = behind_start t c.places.result c.loop-before.before c.place-item.result (omega (arith, t.few, c.places.ensures)) c.loop-before-test.true c.place-item.is in
+    let (inside, place) = behind_start t c.min-places.result c.loop-before.before c.place-item.result (omega (arith, c.min-places.ensures)) c.loop-before-test.true c.place-item.is in
     let codes : takes t q c.args.code ≡ c.have_code.result = ap (λ (v : Place). member v.codes c.args.code) place ∙ sym (c.have_code.ensures c.args.code c.only-alone.ensures) in
     elim c.if-have_code.branch [
       | then-have_code+in_ok-follow w ↦
           subst (λ v. To m t c.args.code b c.args.p (q + 1) (Ok tt) v) (sym w.bank-is)
-          (to_followed m t c.args.code b c.args.p q _ _ _ (omega arith) (omega (arith, c.places.ensures)) (codes ∙ w.if-have_code.true) (c.loop-before.invariant ready) w.in_ok-follow.ensures)
+          (to_followed m t c.args.code b c.args.p q _ _ _ (omega arith) (omega (arith, t.few, c.places.ensures, c.min-places.ensures)) (codes ∙ w.if-have_code.true) (c.loop-before.invariant ready) w.in_ok-follow.ensures)
       | else-have_code w ↦
           subst (λ v. To m t c.args.code b c.args.p (q + 1) (Ok tt) v) (sym w.bank-is)
           (to_passed m t c.args.code b c.args.p q _ (codes ∙ w.if-have_code.false) (c.loop-before.invariant ready))
