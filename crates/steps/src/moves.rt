@@ -62,7 +62,7 @@ fn follow<B: Bank>(table: &Table, bank: &mut B, p: usize, q: usize) -> Result<()
     ensures { Ready B.means bank.old → Gathered B.means (along table.now (B.means.front bank.old) p q) bank.old result bank.new }
 {
     let links = table.links(p, q);
-    // Most pairs of places have no link: one question in place of three.
+    // In many patterns most pairs of places have no link: one question there in place of three.
     if links.is_empty() {
         return Ok(());
     }
